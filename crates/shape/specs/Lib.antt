@@ -1,0 +1,5 @@
+pub mod Tables
+pub mod Refusals
+pub mod Formats
+pub mod Turning
+pub mod Sources

@@ -1,0 +1,6 @@
+// Sources of shapes: which points a wire joins, and on which side.
+mod links;
+mod neighbours;
+pub mod record;
+pub mod refusal;
+pub mod source;
