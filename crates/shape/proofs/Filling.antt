@@ -8,12 +8,15 @@ use native.Mathlib.Decide.{ℕ-discrete}
 use lib.Dec.{leb}
 use lib.ListN.{getD, replicate}
 use Rattle.std.proofs.shelf.Lists.{getD-replicate, getD-past, length-replicate}
-use Rattle.std.proofs.shelf.Tests.{cases-lt, cases-eq, cases-bool}
+use Rattle.std.proofs.shelf.Tests.{cases-lt, true≢false, false≢true}
 use Rattle.std.proofs.shelf.Ways.{tells}
 use Rattle.segments.specs.Shapes.{Shape, Lawful, Within, Point, steps}
 use Rattle.segments.proofs.Forward.{lawful-by-forward}
 use Rattle.shape.specs.declared.links.Links.{Links}
-use Rattle.shape.specs.Tables.{cell, of-links, Filled}
+use Rattle.std.specs.declared.option.Option.{Option}
+use Rattle.std.specs.declared.option.Option.the-variants.{Some, None}
+use Rattle.std.specs.Options.{isSome}
+use Rattle.shape.specs.Tables.{Told, cell, of-links, Filled}
 
 -- a fresh table holds its one value everywhere
 pub getD-fresh : {X : Type 0} (d : X) (n i : ℕ) → getD (replicate n d) i d ≡ d
@@ -187,3 +190,12 @@ module _ (R : ℕ → ℕ → ℕ → Type 0) (n : ℕ) (l : Links) (F : Filled 
   pub filled-lawful : ((dir k v : ℕ) → dir ≤ 1 → Within (l .points) v → steps (of-links l) dir (suc k) v ≢ v) → Lawful (of-links l)
   filled-lawful onward =
       lawful-by-forward (of-links l) (λ d v h. (next-side l d v h, next-point l d v h)) to-points opposite (omega (arith, F .points)) (omega (arith, F .points)) onward
+
+-- ---- what an answer tells of the number behind it
+pub told-some : (w : ℕ) (o : Option ℕ) → Told w o → isSome o ≡ true → 1 ≤ w
+told-some w None t e = absurd (false≢true e)
+told-some w (Some v) t e = t .1
+
+pub told-none : (w : ℕ) (o : Option ℕ) → Told w o → isSome o ≡ false → w ≡ 0
+told-none w None t e = t
+told-none w (Some v) t e = absurd (true≢false e)

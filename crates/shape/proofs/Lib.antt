@@ -1,3 +1,6 @@
 pub mod Filling
 pub mod Returning
 pub mod Keeping
+pub mod Numbers
+pub mod Checking
+pub mod Reading

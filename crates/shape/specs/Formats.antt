@@ -1,11 +1,14 @@
 -- What the bytes of a shape file say, and when a file is refused. Assumes nothing.
 use mathlib.Core.Path.{_≡_}
-use mathlib.Core.Logic.{_⊎_, _≢_}
-use mathlib.Core.Bool.{cond}
+use mathlib.Core.Logic.{_⊎_, _≢_, _↔_}
+use mathlib.Core.Bool.{true, cond}
 use mathlib.Core.List.{List}
 use Prim.Native.Nat.{ℕ, suc, _+_, _-_, _*_, _<_, _≤_}
 use lib.Dec.{eqb}
 use lib.ListN.{length, getD, drop}
+use Rattle.std.specs.declared.result.Result.{Result}
+use Rattle.std.specs.declared.result.Result.the-variants.{Ok, Err}
+use Rattle.std.specs.Results.{Cases, isOk, isErr}
 use Rattle.segments.specs.Shapes.{Shape, Lawful, Within, Point, Same, steps}
 use Rattle.shape.specs.declared.refusal.Refusal.{Refusal}
 use Rattle.shape.specs.declared.refusal.Refusal.the-variants.{NotAShape, WrongSize, OutOfRange, Repeated, Endless}
@@ -95,30 +98,33 @@ pub record Lowest (n : ℕ) (Fault : ℕ → Type 0) (v : ℕ) : Type 0 where
   pub fault : Fault v
   pub first : (u : ℕ) → 1 ≤ u → u < v → ¬ Fault u
 
--- the checks, in their order, each over all points before the next
-abbrev pub Begins : Format → List ℕ → Type 0
-Begins f file = ¬ OtherLetter f file
-
+-- the letter and the length are right
 abbrev pub Fits : Format → List ℕ → Type 0
-Fits f file = Begins f file × (¬ Missized f file)
+Fits f file = (¬ OtherLetter f file) × (¬ Missized f file)
 
-abbrev pub InRange : Format → List ℕ → Type 0
-InRange f file = Fits f file × Nowhere (points-of file) (TooHigh f (points-of file) (body-of file))
+-- no point is at fault
+abbrev pub Flawless : Format → ℕ → List ℕ → Type 0
+Flawless f n body = Nowhere n (TooHigh f n body) × Nowhere n (Taken f n body) × Nowhere n (Unended f n body)
 
-abbrev pub Unrepeated : Format → List ℕ → Type 0
-Unrepeated f file = InRange f file × Nowhere (points-of file) (Taken f (points-of file) (body-of file))
+-- each check goes over all points before the next; the first that fails names the lowest point at fault
+abbrev pub Flawed : Format → ℕ → List ℕ → Refusal → Type 0
+Flawed f n body NotAShape = ⊥
+Flawed f n body WrongSize = ⊥
+Flawed f n body (OutOfRange v) = Lowest n (TooHigh f n body) v
+Flawed f n body (Repeated v) = Nowhere n (TooHigh f n body) × Lowest n (Taken f n body) v
+Flawed f n body (Endless v) = Nowhere n (TooHigh f n body) × Nowhere n (Taken f n body) × Lowest n (Unended f n body) v
 
 -- no check fails
 abbrev pub Sound : Format → List ℕ → Type 0
-Sound f file = Unrepeated f file × Nowhere (points-of file) (Unended f (points-of file) (body-of file))
+Sound f file = Fits f file × Flawless f (points-of file) (body-of file)
 
--- every earlier check passes, this one fails, and the lowest point at fault is named
+-- every earlier check passes, and this one fails
 abbrev pub Refuses : Format → List ℕ → Refusal → Type 0
 Refuses f file NotAShape = OtherLetter f file
-Refuses f file WrongSize = Begins f file × Missized f file
-Refuses f file (OutOfRange v) = Fits f file × Lowest (points-of file) (TooHigh f (points-of file) (body-of file)) v
-Refuses f file (Repeated v) = InRange f file × Lowest (points-of file) (Taken f (points-of file) (body-of file)) v
-Refuses f file (Endless v) = Unrepeated f file × Lowest (points-of file) (Unended f (points-of file) (body-of file)) v
+Refuses f file WrongSize = (¬ OtherLetter f file) × Missized f file
+Refuses f file (OutOfRange v) = Fits f file × Flawed f (points-of file) (body-of file) (OutOfRange v)
+Refuses f file (Repeated v) = Fits f file × Flawed f (points-of file) (body-of file) (Repeated v)
+Refuses f file (Endless v) = Fits f file × Flawed f (points-of file) (body-of file) (Endless v)
 
 -- ---- the shape that a file defines
 -- the next point from v in that direction is w, or there is none and w is 0
@@ -135,3 +141,21 @@ pub record Describes (f : Format) (file : List ℕ) (s : Shape) : Type 0 where
 pub record Defines (f : Format) (file : List ℕ) (s : Shape) : Type 0 where
   pub describes : Describes f file s
   pub only : (t : Shape) → Describes f file t → Same s t
+
+-- the bytes are without fault, and s is the shape that they lead through
+pub record Tabled (f : Format) (n : ℕ) (body : List ℕ) (s : Shape) : Type 0 where
+  pub flawless : Flawless f n body
+  pub lawful : Lawful s
+  pub points : s .points ≡ n
+  pub leads : (dir v : ℕ) → dir ≤ 1 → Within n v → Leads f n body dir v (s .next dir v)
+
+-- ---- what a check over all points answers: passed, or the refusal that names the lowest point at fault
+abbrev pub Judges : ℕ → (ℕ → Type 0) → (ℕ → Refusal) → Result (Unit {0}) Refusal → Type 0
+Judges n Fault naming r = Cases r (λ _. Nowhere n Fault) (λ e. (v : ℕ) × (e ≡ naming v) × Lowest n Fault v)
+
+-- ---- what reading a file answers, and what it leaves of the source that it fills, from `before` to `after`
+pub record Reads {X : Type 0} (f : Format) (file : List ℕ) (shape : X → Shape) (before after : X) (r : Result (Unit {0}) Refusal) : Type 0 where
+  pub succeeds-exactly-when-sound : (isOk r ≡ true) ↔ Sound f file
+  pub success-reads-what-the-file-defines : isOk r ≡ true → Defines f file (shape after)
+  pub refusal-names-the-fault : (e : Refusal) → r ≡ Err e → Refuses f file e
+  pub refusal-leaves-all-as-it-was : isErr r ≡ true → after ≡ before

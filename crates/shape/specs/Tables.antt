@@ -40,3 +40,7 @@ pub record Filled (R : ℕ → ℕ → ℕ → Type 0) (n i : ℕ) (l : Links) :
 -- steps to side d lead from v back to it
 abbrev pub Returns : Links → ℕ → ℕ → Type 0
 Returns l d v = (k : ℕ) × (steps (of-links l) d (suc k) v ≡ v)
+
+-- steps to the right or above lead from v back to it
+abbrev pub Circles : Links → ℕ → Type 0
+Circles l v = (d : ℕ) × (d ≤ 1) × Returns l d v

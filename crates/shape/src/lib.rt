@@ -1,4 +1,5 @@
 // Sources of shapes: which points a wire joins, and on which side.
+mod header;
 mod links;
 mod neighbours;
 pub mod record;

@@ -4,6 +4,12 @@ ghost use Prim.Native.Nat.{ℕ};
 ghost use Rattle.segments.specs.Shapes.{Shape, Lawful};
 ghost use Rattle.shape.specs.Tables.{Told};
 
+// The sides of a point. A wire goes to the right or above; the side two further on is the opposite one.
+pub const RIGHT: usize = 0;
+pub const ABOVE: usize = 1;
+pub const LEFT: usize = 2;
+pub const BELOW: usize = 3;
+
 pub trait ShapeSource {
     ghost shape: { Self → Shape };
 
