@@ -4,3 +4,4 @@ pub mod Keeping
 pub mod Numbers
 pub mod Checking
 pub mod Reading
+pub mod Spots

@@ -6,6 +6,8 @@ use mathlib.Core.List.{List}
 use Prim.Native.Nat.{ℕ, suc, _+_, _-_, _*_, _<_, _≤_}
 use lib.Dec.{eqb}
 use lib.ListN.{length, getD, drop}
+use Rattle.std.specs.declared.option.Option.{Option}
+use Rattle.std.specs.declared.option.Option.the-variants.{Some, None}
 use Rattle.std.specs.declared.result.Result.{Result}
 use Rattle.std.specs.declared.result.Result.the-variants.{Ok, Err}
 use Rattle.std.specs.Results.{Cases, isOk, isErr}
@@ -50,6 +52,10 @@ coordinate body dir v = getD body ((v - 1) * 3 + dir) 0
 abbrev pub joins : List ℕ → ℕ → ℕ
 joins body v = getD body ((v - 1) * 3 + 2) 0
 
+-- two points have one spot
+abbrev pub SharesSpot : List ℕ → ℕ → ℕ → Type 0
+SharesSpot body v w = (dir : ℕ) → dir ≤ 1 → coordinate body dir v ≡ coordinate body dir w
+
 -- 1 means joined to the right, 2 joined above, 3 both
 abbrev pub Joins : List ℕ → ℕ → ℕ → Type 0
 Joins body dir v = (joins body v ≡ dir + 1) ⊎ (joins body v ≡ 3)
@@ -63,6 +69,11 @@ pub record Nearest (n : ℕ) (body : List ℕ) (dir v w : ℕ) : Type 0 where
   pub point : Within n w
   pub beyond : Beyond body dir v w
   pub least : (u : ℕ) → Within n u → Beyond body dir v u → coordinate body dir w ≤ coordinate body dir u
+
+-- of a point kept so far, or none, and another: the one with the lesser coordinate, the first where they are equal
+abbrev pub Nearer : List ℕ → ℕ → Option ℕ → ℕ → Option ℕ → Type 0
+Nearer body dir None w r = r ≡ Some w
+Nearer body dir (Some b) w r = (coordinate body dir b ≤ coordinate body dir w → r ≡ Some b) × (coordinate body dir w < coordinate body dir b → r ≡ Some w)
 
 -- ---- when a file is refused
 -- under two bytes, or another letter
@@ -81,7 +92,7 @@ TooHigh old-sheet n body v = 3 < joins body v
 -- a next number that a lower point has for that side; the spot of a lower point
 abbrev pub Taken : Format → ℕ → List ℕ → ℕ → Type 0
 Taken shape-record n body v = (dir u : ℕ) × (dir ≤ 1) × (1 ≤ u) × (u < v) × (written body dir u ≡ written body dir v) × (1 ≤ written body dir v)
-Taken old-sheet n body v = (u : ℕ) × (1 ≤ u) × (u < v) × ((dir : ℕ) → dir ≤ 1 → coordinate body dir u ≡ coordinate body dir v)
+Taken old-sheet n body v = (u : ℕ) × (1 ≤ u) × (u < v) × SharesSpot body u v
 
 -- the point lies on a chain that returns to it; the point is joined to no point
 abbrev pub Unended : Format → ℕ → List ℕ → ℕ → Type 0

@@ -2,6 +2,7 @@
 mod header;
 mod links;
 mod neighbours;
+pub mod old_sheet;
 pub mod record;
 pub mod refusal;
 pub mod source;
