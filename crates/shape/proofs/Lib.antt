@@ -5,3 +5,4 @@ pub mod Numbers
 pub mod Checking
 pub mod Reading
 pub mod Spots
+pub mod Turning

@@ -6,3 +6,4 @@ pub mod old_sheet;
 pub mod record;
 pub mod refusal;
 pub mod source;
+pub mod turned;
