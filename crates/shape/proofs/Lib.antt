@@ -6,3 +6,4 @@ pub mod Checking
 pub mod Reading
 pub mod Spots
 pub mod Turning
+pub mod Following

@@ -3,3 +3,4 @@ pub mod Refusals
 pub mod Formats
 pub mod Turning
 pub mod Sources
+pub mod Ends

@@ -10,6 +10,10 @@ pub const ABOVE: usize = 1;
 pub const LEFT: usize = 2;
 pub const BELOW: usize = 3;
 
+// The directions of wires and arcs, each by the side that it goes to.
+pub const ACROSS: usize = RIGHT;
+pub const UP: usize = ABOVE;
+
 pub trait ShapeSource {
     ghost shape: { Self → Shape };
 
