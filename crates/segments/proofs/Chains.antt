@@ -13,7 +13,7 @@ use Rattle.std.proofs.shelf.Tests.{eq-eqb, ne-eqb}
 use Rattle.walks.specs.Nodes.{Below, Apart, Distinct}
 use Rattle.walks.proofs.Pigeonhole.{distinct-few}
 use Rattle.segments.specs.Shapes.{Shape, Lawful, Point, steps}
-use Rattle.segments.specs.Segments.{Ends, last-within, last, segment, Named, Wire}
+use Rattle.segments.specs.Segments.{Ends, last-within, last, segment, Named, chain-within, chain}
 
 -- ---- steps, with no law
 pub steps-first : (s : Shape) (d k v : ℕ) → steps s d k (s .next d v) ≡ steps s d (suc k) v
@@ -188,3 +188,26 @@ module _ (s : Shape) (L : Lawful s) (d : ℕ) where
 
   pub last-here : (v : ℕ) → s .next d v ≡ 0 → last s d v ≡ v
   last-here v e = last-here-within (s .points) v e
+
+  -- the points of a chain, one by one
+  chain-more : (k v : ℕ) → Point s v → steps s d k v ≡ 0 → chain-within (suc k) s d v ≡ chain-within k s d v
+  chain-more zero v p e = absurd (omega (arith, p .0))
+  chain-more (suc k) v p e = go (ℕ-discrete (s .next d v) 0) (λ h. chain-more k (s .next d v) (L .to-points d v h) (steps-first s d k v ∙ e))
+    where
+      go : Dec (s .next d v ≡ 0) → (s .next d v ≢ 0 → chain-within (suc k) s d (s .next d v) ≡ chain-within k s d (s .next d v)) → chain-within (suc (suc k)) s d v ≡ chain-within (suc k) s d v
+      go (yes q) ih = rw (eq-eqb (s .next d v) 0 q) refl
+      go (no h) ih = rw (ne-eqb (s .next d v) 0 h) (ap (λ (l : List ℕ). v ∷ l) (ih h))
+
+  chain-next-within : (n v : ℕ) → Point s v → s .next d v ≢ 0 → steps s d n v ≡ 0 → chain-within n s d v ≡ v ∷ chain-within n s d (s .next d v)
+  chain-next-within zero v p h e = absurd (omega (arith, p .0))
+  chain-next-within (suc k) v p h e = rw (ne-eqb (s .next d v) 0 h) (ap (λ (l : List ℕ). v ∷ l) (sym (chain-more k (s .next d v) (L .to-points d v h) (steps-first s d k v ∙ e))))
+
+  pub chain-next : (v : ℕ) → Point s v → s .next d v ≢ 0 → chain s d v ≡ v ∷ chain s d (s .next d v)
+  chain-next v p h = chain-next-within (s .points) v p h (chain-ends s L d v p)
+
+  chain-here-within : (n v : ℕ) → Point s v → s .next d v ≡ 0 → steps s d n v ≡ 0 → chain-within n s d v ≡ v ∷ []
+  chain-here-within zero v p h e = absurd (omega (arith, p .0))
+  chain-here-within (suc k) v p h e = rw (eq-eqb (s .next d v) 0 h) refl
+
+  pub chain-here : (v : ℕ) → Point s v → s .next d v ≡ 0 → chain s d v ≡ v ∷ []
+  chain-here v p h = chain-here-within (s .points) v p h (chain-ends s L d v p)

@@ -1,0 +1,4 @@
+// The rows, columns and arcs of a shape as text.
+pub mod arc_text;
+pub mod refusal_text;
+pub mod segment_text;
