@@ -1,2 +1,3 @@
 pub mod Chaining
 pub mod Naming
+pub mod Adding
