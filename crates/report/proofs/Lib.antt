@@ -1,3 +1,4 @@
 pub mod Chaining
 pub mod Naming
 pub mod Adding
+pub mod Telling

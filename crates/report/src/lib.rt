@@ -1,5 +1,6 @@
 // The rows, columns and arcs of a shape as text.
 pub mod arc_text;
+pub mod file_text;
 pub mod part;
 pub mod refusal_text;
 pub mod segment_text;

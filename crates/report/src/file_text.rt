@@ -1,0 +1,41 @@
+// What a shape file's bytes come to as text.
+ghost use mathlib.Core.Path.{_≡_};
+ghost use lib.Chars.{codes};
+ghost use Rattle.std.specs.Of.String.{string-bytes};
+ghost use Rattle.std.specs.Results.{Cases};
+ghost use Rattle.std.specs.Vec.{made};
+ghost use Rattle.report.specs.Files.{format-of, FileText, outcome-text};
+use crate::refusal_text::shape_refusal_line;
+use crate::shape_text::shape_text;
+use shape::old_sheet::OldSheet;
+use shape::old_sheet::OldSheetSource;
+use shape::record::RecordSource;
+use shape::record::ShapeRecord;
+use shape::refusal::Refusal;
+use shape::source::ShapeSource;
+use std::alloc::AllocError;
+use std::alloc::Global;
+
+// The text on a source that was read, or the line of the refusal.
+fn outcome_text<S: ShapeSource>(heap: Global, outcome: Result<(), Refusal>, source: &S) -> Result<String, AllocError>
+    ensures { λ r. ⌜ made r (λ t. string-bytes t ≡ outcome-text outcome (S·ShapeSource .shape (now (source .entry)))) ⌝ }
+{
+    match outcome {
+        Ok(()) => shape_text(heap, source),
+        Err(refusal) => shape_refusal_line(heap, &refusal),
+    }
+}
+
+// The text on the shape that a file's bytes define, whichever of the two formats they have, or the line of their refusal.
+pub fn file_text(heap: Global, file: &[u8]) -> Result<String, AllocError>
+    ensures { λ r. ⌜ made r (λ t. FileText (format-of (now (file .entry))) (now (file .entry)) (string-bytes t)) ⌝ }
+{
+    if let [b'O', ..] = file {
+        let mut sheet = OldSheet::new();
+        let outcome = sheet.read(file);
+        return outcome_text(heap, outcome, &sheet);
+    }
+    let mut record = ShapeRecord::new();
+    let outcome = record.read(file);
+    outcome_text(heap, outcome, &record)
+}
