@@ -6,8 +6,8 @@ ghost use Rattle.std.specs.Vec.{made};
 ghost use Rattle.segments.specs.Segments.{Wire};
 ghost use Rattle.report.specs.Texts.{direction-word, arc-line};
 use shape::ends::own_arc;
-use shape::source::ShapeSource;
 use shape::source::ACROSS;
+use shape::source::ShapeSource;
 use std::alloc::AllocError;
 use std::alloc::Global;
 
@@ -18,7 +18,12 @@ fn direction_word(direction: usize) -> &'static str
 }
 
 // The line of the arc that the wire from a point gives; none where no wire of that direction begins there.
-pub fn arc_line<S: ShapeSource>(heap: Global, source: &S, direction: usize, point: usize) -> Result<Option<String>, AllocError>
+pub fn arc_line<S: ShapeSource>(
+    heap: Global,
+    source: &S,
+    direction: usize,
+    point: usize,
+) -> Result<Option<String>, AllocError>
     ensures { λ r. ⌜ made r (λ o. Cases o (Wire (S·ShapeSource .shape (now (source .entry))) direction point → ⊥) (λ t. Wire (S·ShapeSource .shape (now (source .entry))) direction point × (string-bytes t ≡ arc-line (S·ShapeSource .shape (now (source .entry))) direction point))) ⌝ }
 {
     let Some(arc) = own_arc(source, direction, point) else {

@@ -17,7 +17,11 @@ use std::alloc::AllocError;
 use std::alloc::Global;
 
 // The text on a source that was read, or the line of the refusal.
-fn outcome_text<S: ShapeSource>(heap: Global, outcome: Result<(), Refusal>, source: &S) -> Result<String, AllocError>
+fn outcome_text<S: ShapeSource>(
+    heap: Global,
+    outcome: Result<(), Refusal>,
+    source: &S,
+) -> Result<String, AllocError>
     ensures { λ r. ⌜ made r (λ t. string-bytes t ≡ outcome-text outcome (S·ShapeSource .shape (now (source .entry)))) ⌝ }
 {
     match outcome {

@@ -17,7 +17,15 @@ pub fn shape_refusal_line(heap: Global, refusal: &Refusal) -> Result<String, All
     refusal_line(heap, "s", 0, refusal.number(), 0, refusal.point(), 0)
 }
 
-fn refusal_line(heap: Global, layer: &str, record: usize, number: usize, direction: usize, first: usize, second: usize) -> Result<String, AllocError>
+fn refusal_line(
+    heap: Global,
+    layer: &str,
+    record: usize,
+    number: usize,
+    direction: usize,
+    first: usize,
+    second: usize,
+) -> Result<String, AllocError>
     ensures { λ r. ⌜ made r (λ t. string-bytes t ≡ refusal-line (now (layer .entry)) «record» (named number direction first second)) ⌝ }
 {
     let head = format!(heap, "no {layer} {record} {number}")?;

@@ -10,13 +10,19 @@ ghost use Rattle.segments.specs.Segments.{Named, chain};
 ghost use Rattle.report.specs.Texts.{spaced, segment-word, segment-line};
 use shape::ends::last_point;
 use shape::ends::segment_of;
+use shape::source::ACROSS;
 use shape::source::ShapeSource;
-use shape::source::{ACROSS, UP};
+use shape::source::UP;
 use std::alloc::AllocError;
 use std::alloc::Global;
 
 // The points of the chain from a point to a side, each after a space.
-fn chain_text<S: ShapeSource>(heap: Global, source: &S, point: usize, side: usize) -> Result<String, AllocError>
+fn chain_text<S: ShapeSource>(
+    heap: Global,
+    source: &S,
+    point: usize,
+    side: usize,
+) -> Result<String, AllocError>
     requires { ⌜ Point (S·ShapeSource .shape (now source)) point ⌝ }
     ensures { λ r. ⌜ made r (λ t. string-bytes t ≡ spaced (chain (S·ShapeSource .shape (now (source .entry))) side point)) ⌝ }
 {
@@ -39,7 +45,12 @@ fn segment_word(direction: usize) -> &'static str
 }
 
 // The line of the row or column of that name; none where the number names none.
-pub fn segment_line<S: ShapeSource>(heap: Global, source: &S, direction: usize, name: usize) -> Result<Option<String>, AllocError>
+pub fn segment_line<S: ShapeSource>(
+    heap: Global,
+    source: &S,
+    direction: usize,
+    name: usize,
+) -> Result<Option<String>, AllocError>
     ensures { λ r. ⌜ made r (λ o. Cases o (Named (S·ShapeSource .shape (now (source .entry))) direction name → ⊥) (λ t. Named (S·ShapeSource .shape (now (source .entry))) direction name × (string-bytes t ≡ segment-line (S·ShapeSource .shape (now (source .entry))) direction name))) ⌝ }
 {
     let Some(segment) = segment_of(source, direction, name) else {

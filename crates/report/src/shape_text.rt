@@ -9,13 +9,20 @@ ghost use Rattle.report.specs.Parts.{bytes-or-none, part-line, part-lines, sha
 use crate::arc_text::arc_line;
 use crate::part::Part;
 use crate::segment_text::segment_line;
+use shape::source::ACROSS;
 use shape::source::ShapeSource;
-use shape::source::{ACROSS, UP};
+use shape::source::UP;
 use std::alloc::AllocError;
 use std::alloc::Global;
 
 // The line that a number has in a part, if any.
-fn part_line<S: ShapeSource>(heap: Global, source: &S, part: Part, direction: usize, number: usize) -> Result<Option<String>, AllocError>
+fn part_line<S: ShapeSource>(
+    heap: Global,
+    source: &S,
+    part: Part,
+    direction: usize,
+    number: usize,
+) -> Result<Option<String>, AllocError>
     requires direction { ⌜ direction ≤ 1 ⌝ }
     requires number { ⌜ Point (S·ShapeSource .shape (now source)) number ⌝ }
     ensures { λ r. ⌜ made r (λ o. bytes-or-none o ≡ part-line part (S·ShapeSource .shape (now (source .entry))) direction number) ⌝ }
@@ -27,7 +34,14 @@ fn part_line<S: ShapeSource>(heap: Global, source: &S, part: Part, direction: us
 }
 
 // The line that a number has in a part, if any, at the end of a text.
-fn add_line<S: ShapeSource>(heap: Global, text: &mut String, source: &S, part: Part, direction: usize, number: usize) -> Result<(), AllocError>
+fn add_line<S: ShapeSource>(
+    heap: Global,
+    text: &mut String,
+    source: &S,
+    part: Part,
+    direction: usize,
+    number: usize,
+) -> Result<(), AllocError>
     requires direction { ⌜ direction ≤ 1 ⌝ }
     requires number { ⌜ Point (S·ShapeSource .shape (now source)) number ⌝ }
     ensures { λ r. ⌜ made r (λ _. string-bytes (now (text .exit)) ≡ string-bytes (now (text .entry)) ++ part-line part (S·ShapeSource .shape (now (source .entry))) direction number) ⌝ }
@@ -39,7 +53,13 @@ fn add_line<S: ShapeSource>(heap: Global, text: &mut String, source: &S, part: P
 }
 
 // The lines of a part, by their numbers in order, at the end of a text.
-fn add_part<S: ShapeSource>(heap: Global, text: &mut String, source: &S, part: Part, direction: usize) -> Result<(), AllocError>
+fn add_part<S: ShapeSource>(
+    heap: Global,
+    text: &mut String,
+    source: &S,
+    part: Part,
+    direction: usize,
+) -> Result<(), AllocError>
     requires { ⌜ direction ≤ 1 ⌝ }
     ensures { λ r. ⌜ made r (λ _. string-bytes (now (text .exit)) ≡ string-bytes (now (text .entry)) ++ part-lines part (S·ShapeSource .shape (now (source .entry))) direction) ⌝ }
 {

@@ -12,8 +12,8 @@ use Rattle.segments.proofs.Chains.{steps-first, steps-add, steps-on, steps-sta
 pub sides : (d : ℕ) → (d ≤ 1) ⊎ (((dir : ℕ) × (dir ≤ 1) × (d ≡ dir + 2)) ⊎ (3 < d))
 sides d =
     elim (cases-lt d 2) [
-      inl h ↦ inl (omega arith)
-    | inr h ↦ elim (cases-lt d 4) [ inl k ↦ inr (inl (d - 2, omega arith, omega arith)) | inr k ↦ inr (inr (omega arith)) ]
+      | inl h ↦ inl (omega arith)
+      | inr h ↦ elim (cases-lt d 4) [ inl k ↦ inr (inl (d - 2, omega arith, omega arith)) | inr k ↦ inr (inr (omega arith)) ]
     ]
 
 -- ---- a chain that returns does so within as many steps as there are points

@@ -18,7 +18,7 @@ lawful-prop s a b =
     let from : IsProp ((d v : ℕ) → s .next d v ≢ 0 → (d ≤ 3) × Point s v) = Π-prop (λ d. Π-prop (λ v. Π-prop (λ _. ×-prop le-prop (point-prop s v)))) in
     let to : IsProp ((d v : ℕ) → s .next d v ≢ 0 → Point s (s .next d v)) = Π-prop (λ d. Π-prop (λ v. Π-prop (λ _. point-prop s (s .next d v)))) in
     let inverse : IsProp ((dir v w : ℕ) → dir ≤ 1 → Point s v → Point s w → (s .next dir v ≡ w) ↔ (s .next (dir + 2) w ≡ v)) =
-      Π-prop (λ dir. Π-prop (λ v. Π-prop (λ w. Π-prop (λ _. Π-prop (λ _. Π-prop (λ _. ↔-prop (ℕ-set _ _) (ℕ-set _ _)))))))
+    Π-prop (λ dir. Π-prop (λ v. Π-prop (λ w. Π-prop (λ _. Π-prop (λ _. Π-prop (λ _. ↔-prop (ℕ-set _ _) (ℕ-set _ _)))))))
     in
     let onward : IsProp ((d k v : ℕ) → Point s v → steps s d (suc k) v ≢ v) = Π-prop (λ d. Π-prop (λ k. Π-prop (λ v. Π-prop (λ _. differ-prop _ _)))) in
     λ i. record {

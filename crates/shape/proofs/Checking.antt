@@ -20,8 +20,7 @@ module _ (Fault : ℕ → Type 0) where
 
   -- a fault in one of two directions
   pub either-direction : (r : Bool) → ¬ Fault 0 → Decides r (Fault 1) → Decides r ((d : ℕ) × (d ≤ 1) × Fault d)
-  either-direction r none one =
-      (
-        λ e. (1, omega arith, one .0 e),
-        λ t. elim (cases-eq (t .0) 0) [ inl z ↦ absurd (none (subst Fault z (t .2))) | inr z ↦ one .1 (subst Fault (let e : t .0 ≡ 1 = omega (arith, t .1) in e) (t .2)) ],
-      )
+  either-direction r none one = (
+    λ e. (1, omega arith, one .0 e),
+    λ t. elim (cases-eq (t .0) 0) [ inl z ↦ absurd (none (subst Fault z (t .2))) | inr z ↦ one .1 (subst Fault (let e : t .0 ≡ 1 = omega (arith, t .1) in e) (t .2)) ],
+  )

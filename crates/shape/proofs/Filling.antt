@@ -22,8 +22,8 @@ use Rattle.shape.specs.Tables.{Told, cell, of-links, Filled}
 pub getD-fresh : {X : Type 0} (d : X) (n i : ℕ) → getD (replicate n d) i d ≡ d
 getD-fresh d n i =
     elim (cases-lt i n) [
-      inl h ↦ getD-replicate n i d d h
-    | inr h ↦ getD-past (replicate n d) i d (let e = length-replicate n d in omega arith)
+      | inl h ↦ getD-replicate n i d d h
+      | inr h ↦ getD-past (replicate n d) i d (let e = length-replicate n d in omega arith)
     ]
 
 -- ---- what a table answers

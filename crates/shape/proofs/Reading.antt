@@ -1,7 +1,6 @@
 -- What reading a file of either format comes to. Assumes nothing.
 use mathlib.Core.Path.{_≡_, refl, sym, ap, _∙_, subst}
-use mathlib.Core.Logic.{_⊎_, inl, inr, _≢_, _↔_}
-use mathlib.Core.Bool.{true, false}
+use mathlib.Core.Logic.{inl, inr}
 use mathlib.Core.List.{List}
 use Prim.Native.Nat.{ℕ, _+_, _-_, _*_, _<_, _≤_}
 use native.Mathlib.Omega.{arith}
@@ -10,12 +9,12 @@ use lib.ListN.{length, getD, length-drop}
 use Rattle.std.specs.declared.result.Result.{Result}
 use Rattle.std.specs.declared.result.Result.the-variants.{Ok, Err}
 use Rattle.std.specs.Results.{Cases, ErrBy}
-use Rattle.std.proofs.shelf.Tests.{cases-lt, cases-order, true≢false, false≢true}
+use Rattle.std.proofs.shelf.Tests.{cases-order}
 use Rattle.segments.specs.Shapes.{Shape, Lawful, Within, Point, Same}
 use Rattle.segments.proofs.Forward.{same-by-forward}
 use Rattle.shape.specs.declared.refusal.Refusal.{Refusal}
 use Rattle.shape.specs.declared.refusal.Refusal.the-variants.{NotAShape, WrongSize, OutOfRange, Repeated, Endless}
-use Rattle.shape.specs.Formats.{Format, letter, bytes-a-point, points-of, body-of, coordinate, Joins, Beyond, Nearest, TooHigh, Taken, Unended, Lowest, Nowhere, Fits, Flawless, Flawed, Sound, Refuses, Leads, Tabled, Describes, Defines, Reads}
+use Rattle.shape.specs.Formats.{Format, letter, bytes-a-point, points-of, body-of, coordinate, Joins, Nearest, TooHigh, Taken, Unended, Lowest, Nowhere, Fits, Flawless, Flawed, Sound, Refuses, Leads, Tabled, Describes, Defines}
 use Rattle.shape.specs.Formats.Format.{shape-record, old-sheet}
 
 lowest-somewhere : (n : ℕ) (Fault : ℕ → Type 0) (v : ℕ) → Lowest n Fault v → ¬ Nowhere n Fault
@@ -70,10 +69,10 @@ pub described-defines : (f : Format) (file : List ℕ) (s : Shape) → Sound f f
 described-defines f file s sound d = record {
   describes = d;
   only = λ t e.
-    let n = points-of file in
-    let body = body-of file in
-    let same : s .points ≡ t .points = d .points ∙ sym (e .points) in
-    same-by-forward s t (d .lawful) (e .lawful) same (λ dir v h p.
+      let n = points-of file in
+      let body = body-of file in
+      let same : s .points ≡ t .points = d .points ∙ sym (e .points) in
+      same-by-forward s t (d .lawful) (e .lawful) same (λ dir v h p.
       one-led f n body (sound .1 .1) dir v (s .next dir v) (t .next dir v) h
       (subst (λ (k : ℕ). Leads f k body dir v (s .next dir v)) (d .points) (d .leads dir v h p))
       (subst (λ (k : ℕ). Leads f k body dir v (t .next dir v)) (e .points) (e .leads dir v h (p .0, omega (arith, p .1)))));
@@ -82,8 +81,7 @@ described-defines f file s sound d = record {
 -- ---- from the header and the checks over the points to the file
 pub header-fits : (f : Format) (file : List ℕ) → 2 ≤ length file → getD file 0 0 ≡ letter f → 1 ≤ points-of file → points-of file ≤ 128 → length (body-of file) ≡ bytes-a-point f * points-of file → Fits f file
 header-fits f file two first some few long =
-    let whole = length-drop 2 file in
-    (
+    let whole = length-drop 2 file in (
       λ o. elim o [ inl h ↦ omega arith | inr h ↦ h first ],
       λ m. elim m [ inl h ↦ omega arith | inr r ↦ elim r [ inl h ↦ omega arith | inr h ↦ h (omega arith) ] ],
     )
@@ -100,44 +98,24 @@ module _ (f : Format) (file : List ℕ) (n : ℕ) (body : List ℕ) (en : n ≡ 
   of-file : (P : ℕ → List ℕ → Type 0) → P n body → P (points-of file) (body-of file)
   of-file P h = subst (λ (k : ℕ). P k (body-of file)) en (subst (P n) eb h)
 
-  pub body-refused : (e : Refusal) → Flawed f n body e → Refuses f file e
-  body-refused e h = flawed-refused f file e fits (of-file (λ k bs. Flawed f k bs e) h)
+  pub body-refused : (e : Refusal) → Flawed f n body e → (¬ Sound f file) × Refuses f file e
+  body-refused e h = let r = flawed-refused f file e fits (of-file (λ k bs. Flawed f k bs e) h) in (refuses-unsound f file e r, r)
 
-  pub body-sound : Flawless f n body → Sound f file
-  body-sound h = (fits, of-file (Flawless f) h)
-
-  pub body-described : (s : Shape) → Tabled f n body s → Describes f file s
+  body-described : (s : Shape) → Tabled f n body s → Describes f file s
   body-described s t = record {
     lawful = t .lawful;
     points = t .points ∙ en;
     leads = λ dir v h p.
-      subst (λ (k : ℕ). Leads f k (body-of file) dir v (s .next dir v)) (sym (t .points))
-      (subst (λ (bs : List ℕ). Leads f n bs dir v (s .next dir v)) eb (t .leads dir v h (p .0, omega (arith, p .1, t .points))));
+        subst (λ (k : ℕ). Leads f k (body-of file) dir v (s .next dir v)) (sym (t .points))
+        (subst (λ (bs : List ℕ). Leads f n bs dir v (s .next dir v)) eb (t .leads dir v h (p .0, omega (arith, p .1, t .points))));
   }
+
+  pub body-defines : (s : Shape) → Tabled f n body s → Sound f file × Defines f file s
+  body-defines s t =
+      let sound : Sound f file = (fits, of-file (Flawless f) (t .flawless)) in
+      (sound, described-defines f file s sound (body-described s t))
 
 -- ---- an error that `?` hands on
 pub handed-on : {T E : Type 0} (r : Result T E) (P : T → Type 0) (Q : E → Type 0) (e : E) → ErrBy r (λ y. y ≡ e) → Q e → Cases r P Q
 handed-on (Ok x) P Q e h q = absurd h
 handed-on (Err y) P Q e h q = subst Q (sym h) q
-
--- ---- the answer
-module _ {X : Type 0} (f : Format) (file : List ℕ) (shape : X → Shape) where
-  pub reads-sound : (before after : X) → Sound f file → Describes f file (shape after) → Reads f file shape before after (Ok tt)
-  reads-sound before after sound d = record {
-    succeeds-exactly-when-sound = (λ _. sound, λ _. refl);
-    success-reads-what-the-file-defines = λ _. described-defines f file (shape after) sound d;
-    refusal-names-the-fault = λ e q. absurd (let z : _≡_ {A = ℕ} 0 1 = cc in omega arith);
-    refusal-leaves-all-as-it-was = λ e. absurd (false≢true e);
-  }
-
-  pub reads-refused : (before : X) (e : Refusal) → Refuses f file e → Reads f file shape before before (Err e)
-  reads-refused before e r = record {
-    succeeds-exactly-when-sound = (λ q. absurd (false≢true q), λ s. absurd (refuses-unsound f file e r s));
-    success-reads-what-the-file-defines = λ q. absurd (false≢true q);
-    refusal-names-the-fault = λ k q. let same : e ≡ k = cc in subst (Refuses f file) same r;
-    refusal-leaves-all-as-it-was = λ _. refl;
-  }
-
-  pub reads-handed-on : (before : X) (e : Refusal) (r : Result (Unit {0}) Refusal) → ErrBy r (λ y. y ≡ e) → Refuses f file e → Reads f file shape before before r
-  reads-handed-on before e (Ok x) h q = absurd h
-  reads-handed-on before e (Err y) h q = reads-refused before y (subst (Refuses f file) (sym h) q)

@@ -32,7 +32,7 @@ module _ (l : Links) (d v : ℕ) (p : Within (l .points) v) where
         | inl h ↦ never (r .0) h (r .1)
         | inr h ↦
             let gone : steps (of-links l) d (suc (r .0)) v ≡ 0 =
-              steps-on (of-links l) d (suc k) (suc (r .0)) v (omega arith) ∙ ap (steps (of-links l) d (suc (r .0) - suc k)) e ∙ steps-stay-none (of-links l) d next-none (suc (r .0) - suc k)
+            steps-on (of-links l) d (suc k) (suc (r .0)) v (omega arith) ∙ ap (steps (of-links l) d (suc (r .0) - suc k)) e ∙ steps-stay-none (of-links l) d next-none (suc (r .0) - suc k)
             in
             omega (arith, sym gone ∙ r .1, p .0)
       ]

@@ -21,13 +21,13 @@ module _ (n : ℕ) (body : List ℕ) where
   same-line dir v u w h pv pu a b d l =
       let across : coordinate body (1 - dir) v ≡ coordinate body (1 - dir) u = a .beyond .0 ∙ sym (b .beyond .0) in
       let along : coordinate body dir v ≡ coordinate body dir u =
-        elim (cases-order (coordinate body dir v) (coordinate body dir u)) [
-          | inl e ↦ e
-          | inr r ↦ elim r [
-            | inl m ↦ absurd (let far = a .least u pu (across, m) in omega (arith, b .beyond .1))
-            | inr m ↦ absurd (let far = b .least v pv (sym across, m) in omega (arith, a .beyond .1))
-          ]
+      elim (cases-order (coordinate body dir v) (coordinate body dir u)) [
+        | inl e ↦ e
+        | inr r ↦ elim r [
+          | inl m ↦ absurd (let far = a .least u pu (across, m) in omega (arith, b .beyond .1))
+          | inr m ↦ absurd (let far = b .least v pv (sym across, m) in omega (arith, a .beyond .1))
         ]
+      ]
       in
       elim (ℕ-discrete d dir) [
         | yes e ↦ ap (λ (k : ℕ). coordinate body k v) e ∙ along ∙ ap (λ (k : ℕ). coordinate body k u) (sym e)

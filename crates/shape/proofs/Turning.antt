@@ -67,5 +67,6 @@ module _ (q : ℕ) (s : Shape) where
       ];
     }
 
-  pub four-more-turns : Same (turned (q + 4) s) (turned q s)
-  four-more-turns = record { points = refl; next = λ d v. ap (λ (k : ℕ). cond (leb d 3) (s .next k v) 0) (let e : side-before (q + 4) d ≡ side-before q d = omega arith in e) }
+-- counts that differ by whole turns turn every shape alike
+pub turned-alike : (p q : ℕ) → p % 4 ≡ q % 4 → (s : Shape) → Same (turned p s) (turned q s)
+turned-alike p q e s = record { points = refl; next = λ d v. ap (λ (k : ℕ). cond (leb d 3) (s .next ((d + (4 - k)) % 4) v) 0) e }

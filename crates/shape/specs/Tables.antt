@@ -24,9 +24,9 @@ cell l d v = getD (l .cells) (d * 128 + (v - 1)) 0
 abbrev pub of-links : Links → Shape
 of-links l = record { points = l .points; next = λ d v. cond (leb d 3 && (leb 1 v && leb v (l .points))) (cell l d v) 0 }
 
--- one point without wires
-abbrev pub lone-point : Shape
-lone-point = record { points = 1; next = λ d v. 0 }
+-- points without wires
+abbrev pub unwired : ℕ → Shape
+unwired n = record { points = n; next = λ d v. 0 }
 
 -- The wires are counted point by point, each to the right and then above. The first i of them are in the table
 -- as R has them, the others are not, and the last two sides mirror the first two.

@@ -1,8 +1,12 @@
 // Rows, columns and arcs of any source: the names of a point's row and column, the ends that they run to, and the arc of a wire.
 ghost use Prim.Native.Nat.{ℕ};
 ghost use Rattle.shape.specs.Ends.{TellsEnd, TellsSegment, TellsArc};
+use crate::source::ABOVE;
+use crate::source::ACROSS;
+use crate::source::BELOW;
+use crate::source::RIGHT;
 use crate::source::ShapeSource;
-use crate::source::{ABOVE, ACROSS, BELOW, RIGHT, UP};
+use crate::source::UP;
 
 // b lies at least one step further right, or higher, than a: from a to b, both named as columns or as rows.
 #[derive(Clone, Copy, Debug, PartialEq, Eq)]

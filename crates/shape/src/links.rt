@@ -18,7 +18,10 @@ impl Links {
         ensures points { λ r. ⌜ r .points ≡ points ⌝ }
         ensures cells { λ r. ⌜ ((d v : ℕ) → cell r d v ≡ 0) ⌝ }
     {
-        Links { points, cells: [0; 512] }
+        Links {
+            points,
+            cells: [0; 512],
+        }
     }
 
     pub(crate) fn points(&self) -> usize

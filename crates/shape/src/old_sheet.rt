@@ -6,10 +6,10 @@ ghost use Rattle.std.specs.Orderings.{Decides};
 ghost use Rattle.std.specs.Options.{Cases as BySome};
 ghost use Rattle.std.specs.Results.{Cases};
 ghost use Rattle.segments.specs.Shapes.{Within, Same};
-ghost use Rattle.shape.specs.Formats.{coordinate, joins, Joins, Beyond, Nearest, Nearer, SharesSpot, TooHigh, Taken, Unended, Leads, Nowhere, Lowest, Judges, Flawed, Tabled, Sound, Describes, Refuses, Reads};
+ghost use Rattle.shape.specs.Formats.{coordinate, joins, Joins, Beyond, Nearest, Nearer, SharesSpot, TooHigh, Taken, Unended, Leads, Nowhere, Lowest, Judges, Flawed, Tabled, Sound, Defines, Refuses, Reads};
 ghost use Rattle.shape.specs.Formats.Format.{old-sheet};
-ghost use Rattle.shape.specs.Tables.{of-links, Filled, lone-point};
-ghost use Rattle.shape.specs.Sources.{of-old-sheet};
+ghost use Rattle.shape.specs.Tables.{of-links, Filled, unwired};
+ghost use Rattle.shape.specs.Sources.{of-neighbours, of-old-sheet};
 ghost use Rattle.shape.specs.declared.refusal.Refusal.the-variants.{OutOfRange, Repeated, Endless};
 use crate::header::sized;
 use crate::links::Links;
@@ -25,17 +25,18 @@ pub struct OldSheet {
 impl OldSheet {
     // One point without wires.
     pub fn new() -> OldSheet
-        ensures { λ r. ⌜ Same (of-old-sheet r) lone-point ⌝ }
+        ensures { λ r. ⌜ Same (of-old-sheet r) (unwired 1) ⌝ }
     {
-        OldSheet { neighbours: Neighbours::lone() }
+        OldSheet {
+            neighbours: Neighbours::unjoined(1),
+        }
     }
 
     // Fills the sheet from a file's bytes, or refuses them and leaves it as it was.
     pub fn read(&mut self, file: &[u8]) -> Result<(), Refusal>
         ensures { λ r. ⌜ Reads old-sheet (now (file .entry)) of-old-sheet (now (self .entry)) (now (self .exit)) r ⌝ }
     {
-        let links = linked(file)?;
-        self.neighbours = Neighbours::of(links);
+        self.neighbours = described(file)?;
         Ok(())
     }
 }
@@ -87,7 +88,8 @@ fn lies_beyond(body: &[u8], direction: usize, point: usize, other: usize) -> boo
     requires other { ⌜ (1 ≤ other) × (3 * other ≤ length (now body)) ⌝ }
     ensures { λ r. ⌜ Decides r (Beyond (now (body .entry)) direction point other) ⌝ }
 {
-    at(body, 1 - direction, point) == at(body, 1 - direction, other) && at(body, direction, point) < at(body, direction, other)
+    at(body, 1 - direction, point) == at(body, 1 - direction, other)
+        && at(body, direction, point) < at(body, direction, other)
 }
 
 // No point has joins above 3.
@@ -191,13 +193,14 @@ fn tabled(points: usize, body: &[u8]) -> Result<Links, Refusal>
     joined(points, body)
 }
 
-// The table that a file's bytes define.
-fn linked(file: &[u8]) -> Result<Links, Refusal>
-    ensures { λ r. ⌜ Cases r (λ l. Sound old-sheet (now (file .entry)) × Describes old-sheet (now (file .entry)) (of-links l)) (Refuses old-sheet (now (file .entry))) ⌝ }
+// The neighbours that a file's bytes define.
+fn described(file: &[u8]) -> Result<Neighbours, Refusal>
+    ensures { λ r. ⌜ Cases r (λ t. Sound old-sheet (now (file .entry)) × Defines old-sheet (now (file .entry)) (of-neighbours t)) (λ e. (Sound old-sheet (now (file .entry)) → ⊥) × Refuses old-sheet (now (file .entry)) e) ⌝ }
 {
     let [b'O', n, body @ ..] = file else {
         return Err(Refusal::NotAShape);
     };
     let points = sized(*n, body, 3)?;
-    tabled(points, body)
+    let links = tabled(points, body)?;
+    Ok(Neighbours::of(links))
 }

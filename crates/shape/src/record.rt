@@ -5,17 +5,18 @@ ghost use lib.ListN.{length};
 ghost use Rattle.std.specs.Orderings.{Decides};
 ghost use Rattle.std.specs.Results.{Cases};
 ghost use Rattle.segments.specs.Shapes.{Within, Same};
-ghost use Rattle.shape.specs.Formats.{TooHigh, Taken, Leads, Nowhere, Lowest, Judges, Flawed, Tabled, Sound, Describes, Refuses, Reads};
+ghost use Rattle.shape.specs.Formats.{TooHigh, Taken, Leads, Nowhere, Lowest, Judges, Flawed, Tabled, Sound, Defines, Refuses, Reads};
 ghost use Rattle.shape.specs.Formats.Format.{shape-record};
-ghost use Rattle.shape.specs.Tables.{cell, of-links, Filled, Circles, lone-point};
-ghost use Rattle.shape.specs.Sources.{of-record};
+ghost use Rattle.shape.specs.Tables.{cell, of-links, Filled, Circles, unwired};
+ghost use Rattle.shape.specs.Sources.{of-neighbours, of-record};
 ghost use Rattle.shape.specs.declared.refusal.Refusal.the-variants.{OutOfRange, Repeated, Endless};
 use crate::header::sized;
 use crate::links::Links;
 use crate::neighbours::Neighbours;
 use crate::refusal::Refusal;
+use crate::source::ABOVE;
+use crate::source::RIGHT;
 use crate::source::ShapeSource;
-use crate::source::{ABOVE, RIGHT};
 
 #[derive(Clone, Copy)]
 pub struct ShapeRecord {
@@ -25,17 +26,18 @@ pub struct ShapeRecord {
 impl ShapeRecord {
     // One point without wires.
     pub fn new() -> ShapeRecord
-        ensures { λ r. ⌜ Same (of-record r) lone-point ⌝ }
+        ensures { λ r. ⌜ Same (of-record r) (unwired 1) ⌝ }
     {
-        ShapeRecord { neighbours: Neighbours::lone() }
+        ShapeRecord {
+            neighbours: Neighbours::unjoined(1),
+        }
     }
 
     // Fills the record from a file's bytes, or refuses them and leaves it as it was.
     pub fn read(&mut self, file: &[u8]) -> Result<(), Refusal>
         ensures { λ r. ⌜ Reads shape-record (now (file .entry)) of-record (now (self .entry)) (now (self .exit)) r ⌝ }
     {
-        let links = linked(file)?;
-        self.neighbours = Neighbours::of(links);
+        self.neighbours = described(file)?;
         Ok(())
     }
 }
@@ -59,7 +61,9 @@ fn check_range(points: usize, body: &[u8]) -> Result<(), Refusal>
 {
     for (index, next) in body.iter().enumerate() {
         if usize::from(*next) > points {
-            return Err(Refusal::OutOfRange { point: index / 2 + 1 });
+            return Err(Refusal::OutOfRange {
+                point: index / 2 + 1,
+            });
         }
     }
     Ok(())
@@ -124,13 +128,14 @@ fn tabled(points: usize, body: &[u8]) -> Result<Links, Refusal>
     Ok(links)
 }
 
-// The table that a file's bytes define.
-fn linked(file: &[u8]) -> Result<Links, Refusal>
-    ensures { λ r. ⌜ Cases r (λ l. Sound shape-record (now (file .entry)) × Describes shape-record (now (file .entry)) (of-links l)) (Refuses shape-record (now (file .entry))) ⌝ }
+// The neighbours that a file's bytes define.
+fn described(file: &[u8]) -> Result<Neighbours, Refusal>
+    ensures { λ r. ⌜ Cases r (λ t. Sound shape-record (now (file .entry)) × Defines shape-record (now (file .entry)) (of-neighbours t)) (λ e. (Sound shape-record (now (file .entry)) → ⊥) × Refuses shape-record (now (file .entry)) e) ⌝ }
 {
     let [b'S', n, body @ ..] = file else {
         return Err(Refusal::NotAShape);
     };
     let points = sized(*n, body, 2)?;
-    tabled(points, body)
+    let links = tabled(points, body)?;
+    Ok(Neighbours::of(links))
 }

@@ -37,7 +37,9 @@ impl Refusal {
     {
         match self {
             Refusal::NotAShape | Refusal::WrongSize => 0,
-            Refusal::OutOfRange { point } | Refusal::Repeated { point } | Refusal::Endless { point } => *point,
+            Refusal::OutOfRange { point }
+            | Refusal::Repeated { point }
+            | Refusal::Endless { point } => *point,
         }
     }
 }

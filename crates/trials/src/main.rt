@@ -9,7 +9,9 @@ use std::error::AnyError;
 use std::fs;
 
 const CASES: &str = "cases.txt";
+
 const TURNED: &str = "record_five.bin";
+
 const MOST_TURNS: usize = 5;
 
 // The text of one file, under its name.

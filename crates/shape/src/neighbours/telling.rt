@@ -1,17 +1,21 @@
 // What a lawful table of neighbours answers.
 ghost use mathlib.Core.Path.{_≡_};
+ghost use Prim.Native.Nat.{_≤_};
 ghost use Rattle.segments.specs.Shapes.{Lawful, Same};
-ghost use Rattle.shape.specs.Tables.{Told, of-links, lone-point};
+ghost use Rattle.shape.specs.Tables.{Told, of-links, unwired};
 ghost use Rattle.shape.specs.Sources.{of-neighbours};
 use super::Neighbours;
 use crate::links::Links;
 
 impl Neighbours {
-    // One point without wires.
-    pub(crate) fn lone() -> Neighbours
-        ensures { λ r. ⌜ Same (of-neighbours r) lone-point ⌝ }
+    // Points without wires.
+    pub(crate) fn unjoined(points: usize) -> Neighbours
+        requires { ⌜ (1 ≤ points) × (points ≤ 128) ⌝ }
+        ensures { λ r. ⌜ Same (of-neighbours r) (unwired points) ⌝ }
     {
-        Neighbours { links: Links::unjoined(1) }
+        Neighbours {
+            links: Links::unjoined(points),
+        }
     }
 
     pub(crate) fn of(links: Links) -> Neighbours

@@ -11,6 +11,6 @@ pub returns : need.returns
 returns c =
     let e = c .args .refusal .now in
     let same : named (c .number .result) 0 (c .point .result) 0 ≡ naming e =
-      ap (λ (k : ℕ). named k 0 (c .point .result) 0) (c .number .ensures) ∙ ap (λ (k : ℕ). named (naming e .number) 0 k 0) (c .point .ensures) ∙ names-a-point e
+    ap (λ (k : ℕ). named k 0 (c .point .result) 0) (c .number .ensures) ∙ ap (λ (k : ℕ). named (naming e .number) 0 k 0) (c .point .ensures) ∙ names-a-point e
     in
     made-weaker (c .refusal-line .result) _ _ (λ t h. h ∙ ap (refusal-line (codes "s") 0) same) (c .refusal-line .ensures)

@@ -21,8 +21,7 @@ pub loop-text-again : need.loop-text-again
 loop-text-again g c =
     let s = g .S·ShapeSource .shape (c .args .source .now) in
     let L = g .S·ShapeSource·met .lawful (c .args .source .now) in
-    let pushed : string-bytes (c .push-str .last .self) ≡ string-bytes (c .loop-text .text) ++ (codes " " ++ decimal (c .loop-text .at)) = search needs in
-    (
+    let pushed : string-bytes (c .push-str .last .self) ≡ string-bytes (c .loop-text .text) ++ (codes " " ++ decimal (c .loop-text .at)) = search needs in (
       told-point s L (c .args .side) (c .loop-text .at) (c .loop-text .inv .0) (c .in-Some .next) (c .in-Some .ensures tt),
       written-next s L (c .args .side) (c .loop-text .at) (c .loop-text .inv .0) _ _ pushed (c .in-Some .next) (c .in-Some .ensures tt) ∙ c .loop-text .inv .1,
     )

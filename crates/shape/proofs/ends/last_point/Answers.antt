@@ -1,6 +1,5 @@
 use mathlib.Core.Path.{_∙_}
 use borrow.Author.Needs.{needs}
-use Rattle.segments.specs.Shapes.{Point}
 use Rattle.shape.proofs.Following.{told-point, told-ahead, told-last, told-end}
 use Rattle.shape.proofs.ends.last_point.Needs as need
 
@@ -11,8 +10,7 @@ loop-next-less g c =
 pub loop-next-again : need.loop-next-again
 loop-next-again g c =
     let s = g .S·ShapeSource .shape (c .args .source .now) in
-    let L = g .S·ShapeSource·met .lawful (c .args .source .now) in
-    (
+    let L = g .S·ShapeSource·met .lawful (c .args .source .now) in (
       told-point s L (c .args .side) (c .loop-next .at) (c .loop-next .inv .0) (c .in-Some .next) (c .in-Some .ensures tt),
       told-last s L (c .args .side) (c .loop-next .at) (c .loop-next .inv .0) (c .in-Some .next) (c .in-Some .ensures tt) ∙ c .loop-next .inv .1,
     )
@@ -20,6 +18,4 @@ loop-next-again g c =
 pub returns : need.returns
 returns g c =
     let s = g .S·ShapeSource .shape (c .args .source .now) in
-    let point : Point s (c .args .point) = search needs in
-    let end = told-end s (g .S·ShapeSource·met .lawful (c .args .source .now)) (c .args .side) (c .loop-next .at) (c .loop-next .inv .0) (c .args .point) point (c .in-rest .ensures tt) (c .loop-next .inv .1) in
-    (point, end .0, end .1)
+    told-end s (g .S·ShapeSource·met .lawful (c .args .source .now)) (c .args .side) (c .loop-next .at) (c .loop-next .inv .0) (c .args .point) (search needs) (c .in-rest .ensures tt) (c .loop-next .inv .1)

@@ -24,13 +24,13 @@ loop-index-again c =
     let point : Within n (i / 2 + 1) = (omega arith, omega arith) in
     let at : i ≡ (i / 2 + 1 - 1) * 2 + i % 2 = omega arith in
     elim (c .if-is-joined .came) [
-      then-is-joined·in-Some w ↦
-        let near = w .in-Some .ensures tt in
-        let j = c .is-joined .ensures .0 (w .if-is-joined .taken) in
-        let after = w .join .ensures in
-        subst (Filled R n (i + 1)) (sym (w .links-is))
-        (filled-join R n l i (i % 2) (i / 2 + 1) F at (omega arith) point (w .in-Some .next) (near .point) (c .pre .few) (nearest-free n body (c .pre .spots) i l F (i % 2) (i / 2 + 1) (w .in-Some .next) at (omega arith) point near) (λ _. near, λ no. absurd (no j)) (w .join .last .self) (after .points) (after .there) (after .back) (after .others))
-    | else-is-joined w ↦
-        let none = not-from-decides (c .is-joined .result) (c .is-joined .ensures) (w .if-is-joined .left) in
-        subst (Filled R n (i + 1)) (sym (w .links-is)) (filled-skip R n l i (i % 2) (i / 2 + 1) F at (omega arith) point (λ j. absurd (none j), λ _. refl))
+      | then-is-joined·in-Some w ↦
+          let near = w .in-Some .ensures tt in
+          let j = c .is-joined .ensures .0 (w .if-is-joined .taken) in
+          let after = w .join .ensures in
+          subst (Filled R n (i + 1)) (sym (w .links-is))
+          (filled-join R n l i (i % 2) (i / 2 + 1) F at (omega arith) point (w .in-Some .next) (near .point) (c .pre .few) (nearest-free n body (c .pre .spots) i l F (i % 2) (i / 2 + 1) (w .in-Some .next) at (omega arith) point near) (λ _. near, λ no. absurd (no j)) (w .join .last .self) (after .points) (after .there) (after .back) (after .others))
+      | else-is-joined w ↦
+          let none = not-from-decides (c .is-joined .result) (c .is-joined .ensures) (w .if-is-joined .left) in
+          subst (Filled R n (i + 1)) (sym (w .links-is)) (filled-skip R n l i (i % 2) (i / 2 + 1) F at (omega arith) point (λ j. absurd (none j), λ _. refl))
     ]

@@ -42,19 +42,19 @@ loop-index-again c =
     let at : i ≡ (i / 2 + 1 - 1) * 2 + i % 2 = sym (index-is n body (c .pre .long) i) in
     let R = Leads shape-record n body in
     elim (c .if-next-gt0 .came) [
-      then-next-gt0·else-is-some w ↦
-        let l = c .loop-index .links in
-        let next = c .from-next .result in
-        let to : Within n next = (w .if-next-gt0 .taken, omega arith) in
-        let back = next-is l (i % 2 + 2) next (omega arith) (to .0, omega (arith, to .1, c .loop-index .inv .points)) in
-        let free = sym back ∙ told-none _ _ (w .neighbour .ensures) (sym (w .if-is-some .ensures tt)) in
-        let after = w .join .ensures in
-        subst (Filled R n (i + 1)) (sym (w .links-is))
-        (filled-join R n l i (i % 2) (i / 2 + 1) (c .loop-index .inv) at (omega arith) point next to (c .pre .few) free (is ∙ sym (written-at n body (c .pre .long) i)) (w .join .last .self) (after .points) (after .there) (after .back) (after .others))
-    | else-next-gt0 w ↦
-        let none : 0 ≡ getD body i 0 = let h = w .if-next-gt0 .left in omega arith in
-        subst (Filled R n (i + 1)) (sym (w .links-is))
-        (filled-skip R n (c .loop-index .links) i (i % 2) (i / 2 + 1) (c .loop-index .inv) at (omega arith) point (none ∙ sym (written-at n body (c .pre .long) i)))
+      | then-next-gt0·else-is-some w ↦
+          let l = c .loop-index .links in
+          let next = c .from-next .result in
+          let to : Within n next = (w .if-next-gt0 .taken, omega arith) in
+          let back = next-is l (i % 2 + 2) next (omega arith) (to .0, omega (arith, to .1, c .loop-index .inv .points)) in
+          let free = sym back ∙ told-none _ _ (w .neighbour .ensures) (sym (w .if-is-some .ensures tt)) in
+          let after = w .join .ensures in
+          subst (Filled R n (i + 1)) (sym (w .links-is))
+          (filled-join R n l i (i % 2) (i / 2 + 1) (c .loop-index .inv) at (omega arith) point next to (c .pre .few) free (is ∙ sym (written-at n body (c .pre .long) i)) (w .join .last .self) (after .points) (after .there) (after .back) (after .others))
+      | else-next-gt0 w ↦
+          let none : 0 ≡ getD body i 0 = let h = w .if-next-gt0 .left in omega arith in
+          subst (Filled R n (i + 1)) (sym (w .links-is))
+          (filled-skip R n (c .loop-index .links) i (i % 2) (i / 2 + 1) (c .loop-index .inv) at (omega arith) point (none ∙ sym (written-at n body (c .pre .long) i)))
     ]
 
 pub returns : need.returns
