@@ -1,4 +1,2 @@
 pub mod Chaining
-pub mod Naming
 pub mod Adding
-pub mod Telling

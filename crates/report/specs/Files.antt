@@ -1,25 +1,22 @@
 -- What a shape file's bytes come to as text. Assumes nothing.
 use mathlib.Core.Path.{_≡_}
 use mathlib.Core.Logic.{_⊎_}
-use mathlib.Core.Bool.{cond}
 use mathlib.Core.List.{List}
-use Prim.Native.Nat.{ℕ}
+use Prim.Native.Nat.{ℕ, _≤_}
 use lib.Chars.{codes}
-use lib.Dec.{eqb}
-use lib.ListN.{getD}
+use lib.ListN.{length, getD}
 use Rattle.std.specs.declared.result.Result.{Result}
 use Rattle.std.specs.declared.result.Result.the-variants.{Ok, Err}
 use Rattle.segments.specs.Shapes.{Shape}
 use Rattle.shape.specs.declared.refusal.Refusal.{Refusal}
 use Rattle.shape.specs.Refusals.{naming}
 use Rattle.shape.specs.Formats.{Format, Sound, Refuses, Defines}
-use Rattle.shape.specs.Formats.Format.{shape-record, old-sheet}
 use Rattle.report.specs.Texts.{refusal-line}
 use Rattle.report.specs.Parts.{shape-text}
 
--- a file that begins with O is an old sheet; any other is taken for a shape record
-abbrev pub format-of : List ℕ → Format
-format-of file = cond (eqb (getD file 0 0) 79) old-sheet shape-record
+-- a file that begins with the letter O is taken for an old sheet, and any other for a shape record
+abbrev pub BeginsWithO : List ℕ → Type 0
+BeginsWithO file = (1 ≤ length file) × (getD file 0 0 ≡ 79)
 
 -- the text on what was read, or the line of the refusal, of layer s and no record
 abbrev pub outcome-text : Result (Unit {0}) Refusal → Shape → List ℕ

@@ -31,6 +31,10 @@ part-line Arcs s dir v = cond (eqb (s .next dir v) 0) [] (arc-line s dir v)
 abbrev pub part-lines : Part → Shape → ℕ → List ℕ
 part-lines part s dir = each (s .points) (part-line part s dir)
 
+-- the segments of one direction and of another, and then the arcs of the other and of the one
+abbrev pub parts-text : Shape → ℕ → ℕ → List ℕ
+parts-text s one other = part-lines Segments s one ++ (part-lines Segments s other ++ (part-lines Arcs s other ++ part-lines Arcs s one))
+
 -- rows, columns, arcs across, arcs up
 abbrev pub shape-text : Shape → List ℕ
-shape-text s = part-lines Segments s 1 ++ (part-lines Segments s 0 ++ (part-lines Arcs s 0 ++ part-lines Arcs s 1))
+shape-text s = parts-text s 1 0

@@ -7,7 +7,7 @@ use lib.Dec.{eqb}
 use Rattle.std.specs.Written.{decimal}
 use Rattle.segments.specs.Shapes.{Shape}
 use Rattle.segments.specs.Segments.{segment, last, chain}
-use Rattle.shape.specs.Refusals.{Naming}
+use Rattle.shape.specs.declared.refusal.Naming.{Naming}
 
 -- each number after a space
 abbrev pub spaced : List ℕ → List ℕ
@@ -29,9 +29,6 @@ segment-line s dir a =
 abbrev pub arc-line : Shape → ℕ → ℕ → List ℕ
 arc-line s dir v =
     direction-word dir ++ (codes " " ++ (decimal (segment s dir v) ++ (codes " -> " ++ (decimal (segment s dir (s .next dir v)) ++ (codes ": wire " ++ (decimal v ++ (codes " " ++ (decimal (s .next dir v) ++ codes "\n"))))))))
-
-abbrev pub named : ℕ → ℕ → ℕ → ℕ → Naming
-named number direction first second = record { number = number; direction = direction; first = first; second = second }
 
 -- "no", the layer's letter, the record, the number, the direction, the first and the second value
 abbrev pub refusal-line : List ℕ → ℕ → Naming → List ℕ

@@ -1,10 +1,10 @@
 // What a shape file's bytes come to as text.
 ghost use mathlib.Core.Path.{_≡_};
-ghost use lib.Chars.{codes};
+ghost use Rattle.std.specs.Orderings.{Decides};
 ghost use Rattle.std.specs.Of.String.{string-bytes};
-ghost use Rattle.std.specs.Results.{Cases};
 ghost use Rattle.std.specs.Vec.{made};
-ghost use Rattle.report.specs.Files.{format-of, FileText, outcome-text};
+ghost use Rattle.shape.specs.Formats.Format.{shape-record, old-sheet};
+ghost use Rattle.report.specs.Files.{BeginsWithO, FileText, outcome-text};
 use crate::refusal_text::shape_refusal_line;
 use crate::shape_text::shape_text;
 use shape::old_sheet::OldSheet;
@@ -30,16 +30,39 @@ fn outcome_text<S: ShapeSource>(
     }
 }
 
-// The text on the shape that a file's bytes define, whichever of the two formats they have, or the line of their refusal.
-pub fn file_text(heap: Global, file: &[u8]) -> Result<String, AllocError>
-    ensures { λ r. ⌜ made r (λ t. FileText (format-of (now (file .entry))) (now (file .entry)) (string-bytes t)) ⌝ }
+fn old_sheet_text(heap: Global, file: &[u8]) -> Result<String, AllocError>
+    ensures { λ r. ⌜ made r (λ t. FileText old-sheet (now (file .entry)) (string-bytes t)) ⌝ }
 {
-    if let [b'O', ..] = file {
-        let mut sheet = OldSheet::new();
-        let outcome = sheet.read(file);
-        return outcome_text(heap, outcome, &sheet);
-    }
+    let mut sheet = OldSheet::new();
+    let outcome = sheet.read(file);
+    outcome_text(heap, outcome, &sheet)
+}
+
+fn record_text(heap: Global, file: &[u8]) -> Result<String, AllocError>
+    ensures { λ r. ⌜ made r (λ t. FileText shape-record (now (file .entry)) (string-bytes t)) ⌝ }
+{
     let mut record = ShapeRecord::new();
     let outcome = record.read(file);
     outcome_text(heap, outcome, &record)
+}
+
+fn begins_with_o(file: &[u8]) -> bool
+    ensures { λ r. ⌜ Decides r (BeginsWithO (now (file .entry))) ⌝ }
+{
+    match file {
+        [b'O', ..] => true,
+        _ => false,
+    }
+}
+
+// The text on the shape that a file's bytes define, whichever of the two formats they have, or the line of their refusal.
+pub fn file_text(heap: Global, file: &[u8]) -> Result<String, AllocError>
+    ensures an_old_sheet { λ r. ⌜ (BeginsWithO (now (file .entry)) → made r (λ t. FileText old-sheet (now (file .entry)) (string-bytes t))) ⌝ }
+    ensures any_other { λ r. ⌜ ((BeginsWithO (now (file .entry)) → ⊥) → made r (λ t. FileText shape-record (now (file .entry)) (string-bytes t))) ⌝ }
+{
+    if begins_with_o(file) {
+        old_sheet_text(heap, file)
+    } else {
+        record_text(heap, file)
+    }
 }

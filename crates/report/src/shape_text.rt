@@ -5,7 +5,7 @@ ghost use Prim.Native.Nat.{ℕ, _≤_};
 ghost use Rattle.std.specs.Of.String.{string-bytes};
 ghost use Rattle.std.specs.Vec.{made};
 ghost use Rattle.segments.specs.Shapes.{Point};
-ghost use Rattle.report.specs.Parts.{bytes-or-none, part-line, part-lines, shape-text};
+ghost use Rattle.report.specs.Parts.{bytes-or-none, part-line, part-lines, parts-text, shape-text};
 use crate::arc_text::arc_line;
 use crate::part::Part;
 use crate::segment_text::segment_line;
@@ -69,13 +69,28 @@ fn add_part<S: ShapeSource>(
     Ok(())
 }
 
+// The segments of one direction and of another, and then the arcs of the other and of the one.
+fn parts_text<S: ShapeSource>(
+    heap: Global,
+    source: &S,
+    one: usize,
+    other: usize,
+) -> Result<String, AllocError>
+    requires one { ⌜ one ≤ 1 ⌝ }
+    requires other { ⌜ other ≤ 1 ⌝ }
+    ensures { λ r. ⌜ made r (λ t. string-bytes t ≡ parts-text (S·ShapeSource .shape (now (source .entry))) one other) ⌝ }
+{
+    let mut text = String::new(heap);
+    add_part(heap, &mut text, source, Part::Segments, one)?;
+    add_part(heap, &mut text, source, Part::Segments, other)?;
+    add_part(heap, &mut text, source, Part::Arcs, other)?;
+    add_part(heap, &mut text, source, Part::Arcs, one)?;
+    Ok(text)
+}
+
+// Rows, columns, arcs across, arcs up.
 pub fn shape_text<S: ShapeSource>(heap: Global, source: &S) -> Result<String, AllocError>
     ensures { λ r. ⌜ made r (λ t. string-bytes t ≡ shape-text (S·ShapeSource .shape (now (source .entry)))) ⌝ }
 {
-    let mut text = String::new(heap);
-    add_part(heap, &mut text, source, Part::Segments, UP)?;
-    add_part(heap, &mut text, source, Part::Segments, ACROSS)?;
-    add_part(heap, &mut text, source, Part::Arcs, ACROSS)?;
-    add_part(heap, &mut text, source, Part::Arcs, UP)?;
-    Ok(text)
+    parts_text(heap, source, UP, ACROSS)
 }

@@ -1,6 +1,6 @@
 // Why a shape file is refused.
 ghost use mathlib.Core.Path.{_≡_};
-ghost use Rattle.shape.specs.Refusals.{naming};
+ghost use Rattle.shape.specs.Refusals.{naming, of-point};
 
 // Each case with a point names the lowest point at fault.
 #[derive(Clone, Copy, Debug, PartialEq, Eq)]
@@ -17,29 +17,36 @@ pub enum Refusal {
     Endless { point: usize },
 }
 
+// A refusal's number under the rules, and the values that it names; what is not named is 0.
+#[derive(Clone, Copy, Debug, PartialEq, Eq)]
+pub struct Naming {
+    pub number: usize,
+    pub direction: usize,
+    pub first: usize,
+    pub second: usize,
+}
+
 impl Refusal {
-    // The number under which the rules list it.
-    pub fn number(&self) -> usize
-        ensures { λ r. ⌜ r ≡ naming (now (self .entry)) .number ⌝ }
+    pub fn naming(&self) -> Naming
+        ensures { λ r. ⌜ r ≡ naming (now (self .entry)) ⌝ }
     {
         match self {
-            Refusal::NotAShape => 1,
-            Refusal::WrongSize => 2,
-            Refusal::OutOfRange { .. } => 3,
-            Refusal::Repeated { .. } => 4,
-            Refusal::Endless { .. } => 5,
+            Refusal::NotAShape => of_point(1, 0),
+            Refusal::WrongSize => of_point(2, 0),
+            Refusal::OutOfRange { point } => of_point(3, *point),
+            Refusal::Repeated { point } => of_point(4, *point),
+            Refusal::Endless { point } => of_point(5, *point),
         }
     }
+}
 
-    // The point that it names, or 0.
-    pub fn point(&self) -> usize
-        ensures { λ r. ⌜ r ≡ naming (now (self .entry)) .first ⌝ }
-    {
-        match self {
-            Refusal::NotAShape | Refusal::WrongSize => 0,
-            Refusal::OutOfRange { point }
-            | Refusal::Repeated { point }
-            | Refusal::Endless { point } => *point,
-        }
+fn of_point(number: usize, point: usize) -> Naming
+    ensures { λ r. ⌜ r ≡ of-point number point ⌝ }
+{
+    Naming {
+        number,
+        direction: 0,
+        first: point,
+        second: 0,
     }
 }

@@ -1,5 +1,5 @@
 use Rattle.report.proofs.Adding.{four-parts}
-use Rattle.report.proofs.shape_text.shape_text.Needs as need
+use Rattle.report.proofs.shape_text.parts_text.Needs as need
 
 pub returns : need.returns
 returns g c =
