@@ -1,1 +1,11 @@
 pub mod Pigeonhole
+pub mod Circuits
+pub mod Labels
+pub mod Reaching
+pub mod Ranges
+pub mod Longest
+pub mod Ends
+pub mod Folds
+pub mod Duality
+pub mod Rerouting
+pub mod Greatest
