@@ -4,7 +4,8 @@ ghost use Rattle.std.specs.Orderings.{Decides};
 ghost use Rattle.std.specs.Of.String.{string-bytes};
 ghost use Rattle.std.specs.Vec.{made};
 ghost use Rattle.shape.specs.Formats.Format.{shape-record, old-sheet};
-ghost use Rattle.report.specs.Files.{BeginsWithO, FileText, outcome-text};
+ghost use Rattle.report.specs.Files.{BeginsWithO, FileText, WholeText, OutcomeText};
+use crate::place_text::least_text;
 use crate::refusal_text::shape_refusal_line;
 use crate::shape_text::shape_text;
 use shape::old_sheet::OldSheet;
@@ -16,16 +17,26 @@ use shape::source::ShapeSource;
 use std::alloc::AllocError;
 use std::alloc::Global;
 
+// The text on a source, and then its least coordinates.
+fn whole_text<S: ShapeSource>(heap: Global, source: &S) -> Result<String, AllocError>
+    ensures { λ r. ⌜ made r (λ t. WholeText (S·ShapeSource .shape (now (source .entry))) (string-bytes t)) ⌝ }
+{
+    let mut text = shape_text(heap, source)?;
+    let least = least_text(heap, source)?;
+    text.push_str(least.as_str())?;
+    Ok(text)
+}
+
 // The text on a source that was read, or the line of the refusal.
 fn outcome_text<S: ShapeSource>(
     heap: Global,
     outcome: Result<(), Refusal>,
     source: &S,
 ) -> Result<String, AllocError>
-    ensures { λ r. ⌜ made r (λ t. string-bytes t ≡ outcome-text outcome (S·ShapeSource .shape (now (source .entry)))) ⌝ }
+    ensures { λ r. ⌜ made r (λ t. OutcomeText outcome (S·ShapeSource .shape (now (source .entry))) (string-bytes t)) ⌝ }
 {
     match outcome {
-        Ok(()) => shape_text(heap, source),
+        Ok(()) => whole_text(heap, source),
         Err(refusal) => shape_refusal_line(heap, &refusal),
     }
 }

@@ -20,4 +20,10 @@ TellsSegment s dir v (Some a) = Point s v × Named s dir a × (a ≡ segment s d
 -- the arc of the wire of direction dir that begins at v; none where there is no such wire
 abbrev pub TellsArc : Shape → ℕ → ℕ → Option Arc → Type 0
 TellsArc s dir v None = ¬ Wire s dir v
-TellsArc s dir v (Some a) = Wire s dir v × (a .from ≡ segment s dir v) × (a .to ≡ segment s dir (s .next dir v)) × ShapeArc s dir (a .from) (a .to)
+TellsArc s dir v (Some a) =
+    Wire s dir v
+    × Named s dir (a .from)
+    × Named s dir (a .to)
+    × (a .from ≡ segment s dir v)
+    × (a .to ≡ segment s dir (s .next dir v))
+    × ShapeArc s dir (a .from) (a .to)
