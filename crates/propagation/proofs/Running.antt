@@ -53,7 +53,7 @@ module _ {L : Type 0} (ops : Labels L) (n : ℕ) (gaps : Gaps) (start : List L) 
         }
 
   -- one round more, which made the new labels from the old ones and says whether they are the same
-  module _ (k : ℕ) (newest before old new : List L) (so-far : Reached k newest before) (copied : old ≡ newest) (size : length old ≡ n) (pulls : (v : ℕ) → v < length old → at ops new v ≡ pulled ops gaps (at ops old) v (length old)) (same : Bool) (tells : Decides same (Same ops old new)) where
+  module _ (k : ℕ) {newest before : List L} (old new : List L) (so-far : Reached k newest before) (copied : old ≡ newest) (size : length old ≡ n) (pulls : (v : ℕ) → v < length old → at ops new v ≡ pulled ops gaps (at ops old) v (length old)) (same : Bool) (tells : Decides same (Same ops old new)) where
     pub old-is : (v : ℕ) → v < n → at ops old v ≡ round ops n gaps (at ops start) k v
     old-is v h = ap (λ l. at ops l v) copied ∙ so-far .newest-is v h
 
@@ -81,8 +81,9 @@ module _ {L : Type 0} (ops : Labels L) (n : ℕ) (gaps : Gaps) (start : List L) 
         ran w k new old true (omega arith) (so-far .changed) (inl q) (λ _. q, λ _. refl) (size-too, size) new-is old-is
 
   -- every round changed a label
-  pub ran-all : Lawful ops → (newest before : List L) → 1 ≤ n → (length newest ≡ n) × (length before ≡ n) → Reached n newest before → Ran ops n gaps start newest before false
-  ran-all w newest before one sizes r =
+  pub ran-all : Lawful ops → {newest before : List L} (k : ℕ) → k ≡ n → 1 ≤ n → (length newest ≡ n) × (length before ≡ n) → Reached k newest before → Ran ops n gaps start newest before false
+  ran-all w {newest = newest} {before = before} all is-all one sizes reached =
+      let r : Reached n newest before = subst (λ (m : ℕ). Reached m newest before) is-all reached in
       let k : ℕ = n - 1 in
       let e : k + 1 ≡ n = omega arith in
       let here = r .changed k (omega arith) in
@@ -101,8 +102,8 @@ module _ {L : Type 0} (ops : Labels L) (n : ℕ) (gaps : Gaps) (start : List L) 
         | inr e ↦ ap (λ m. round ops n gaps (at ops start) m v) e
       ]
 
-  pub propagated : (spare first second : List L) (settled : Bool) → length start ≡ n → length spare ≡ n → Ran ops n gaps start first second settled → Propagates ops n gaps start spare first second (Ok settled)
-  propagated spare first second settled fits fits-too r =
+  pub propagated : (spare : List L) {first second : List L} (settled : Bool) → length start ≡ n → length spare ≡ n → Ran ops n gaps start first second settled → Propagates ops n gaps start spare first second (Ok settled)
+  propagated spare {first = first} {second = second} settled fits fits-too r =
       record {
         runs-exactly-when-memories-fit = (λ _. (fits, fits-too), λ _. refl);
         refusal-is-of-the-memory = λ e i. absurd (let y : _≡_ {A = ℕ} 0 1 = cc in omega arith);

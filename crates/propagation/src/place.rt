@@ -11,6 +11,7 @@ const END: i32 = 30_000;
 
 #[derive(Clone, Copy, Debug, PartialEq, Eq)]
 pub struct Place {
+    // on the line: no function makes a place beyond its ends
     at: Option<i16>,
 }
 

@@ -1,3 +1,4 @@
 pub mod Chains
 pub mod Laws
 pub mod Forward
+pub mod Lines
