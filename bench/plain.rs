@@ -22,7 +22,7 @@ struct Reach {
 
 impl Label for Reach {
     fn join(self, other: Reach) -> Reach {
-        Reach { yes: self.yes | other.yes }
+        Reach { yes: self.yes || other.yes }
     }
     fn carry(self, _gap: i8) -> Reach {
         self

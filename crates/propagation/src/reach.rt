@@ -18,7 +18,7 @@ pub impl Label for Reach as ReachLabel {
 
     fn join(self, other: Reach) -> Reach {
         Reach {
-            yes: self.yes | other.yes,
+            yes: self.yes || other.yes,
         }
     }
 
