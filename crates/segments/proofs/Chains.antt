@@ -211,3 +211,7 @@ module _ (s : Shape) (L : Lawful s) (d : ℕ) where
 
   pub chain-here : (v : ℕ) → Point s v → s .next d v ≡ 0 → chain s d v ≡ v ∷ []
   chain-here v p h = chain-here-within (s .points) v p h (chain-ends s L d v p)
+
+-- and so have as many steps and more
+pub ended-after : (s : Shape) (L : Lawful s) (d v : ℕ) → Point s v → (k : ℕ) → s .points ≤ k → steps s d k v ≡ 0
+ended-after s L d v p k h = steps-on s d (s .points) k v h ∙ ap (steps s d (k - s .points)) (chain-ends s L d v p) ∙ steps-zero s L d (k - s .points)
