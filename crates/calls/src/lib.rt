@@ -1,4 +1,6 @@
 // A board's calls and their answers, as values and as text.
+#![tactic(auto)]
+
 pub mod answer;
 pub mod answer_text;
 pub mod command;

@@ -1,4 +1,6 @@
 // Reads shape.bin and prints its rows, columns and arcs, or the line of its refusal.
+#![tactic(auto)]
+
 use report::file_text::file_text;
 use std::fs;
 

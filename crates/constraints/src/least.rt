@@ -35,8 +35,8 @@ fn coordinate_at(places: &[Place], node: usize) -> u16
 
 // The places' coordinates as numbers from 0 up, which the least places have.
 fn from_zero(places: &[Place; MOST_NODES]) -> [u16; MOST_NODES]
-    ensures least_over { (s : Shape) (dir : ℕ) → s.points ≤ 128 → LeastOver s dir (coordinate places.now) → LeastOver s dir (λ v. pos (slice_index result v)) }
-    ensures by_index { (n : ℕ) (gaps : Gaps) → n ≤ 128 → Least n gaps (coordinate places.now) → Least n gaps (λ v. pos (slice_index result v)) }
+    ensures of_shapes { (s : Shape) (dir : ℕ) → s.points ≤ 128 → LeastOver s dir (coordinate places.now) → LeastOver s dir (λ v. pos (slice_index result v)) }
+    ensures of_graphs { (n : ℕ) (gaps : Gaps) → n ≤ 128 → Least n gaps (coordinate places.now) → Least n gaps (λ v. pos (slice_index result v)) }
 {
     let mut coordinates = [0; MOST_NODES];
     for node in 0..MOST_NODES {

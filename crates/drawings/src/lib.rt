@@ -1,4 +1,6 @@
 // Theorems on the drawings of a shape: what is kept apart is drawn apart. Each function answers a number, and its contract is the theorem.
+#![tactic(auto)]
+
 ghost use Rattle.drawings.specs.Theorems.{WaysAreNumbered, PairIsOneOfThree, WaysByReach, ObeyingIsSimple, SteppingIsSimple, CompleteIsDrawn, ArcsOfASimpleDrawing, DrawingIsReached, GapsOfOneStep, CrossingIsTouch, ContradictoryHasNoDrawing};
 ghost use Rattle.drawings.specs.Theorems.{TotalByNeed, LayIsShortest, LayTotalIsFlow, DraftExists, DraftIsOne, LayExists, LayIsOne, DraftWithin, LayWithin, TotalWithin};
 ghost use Rattle.drawings.specs.Theorems.{LayShowsGreatest, WithoutLayNotGreatest, LabelsTellCircles, LabelsTellGreatest, GreatestFlowExists, GreatestFlowsAgree, CellsWithin};

@@ -1,4 +1,6 @@
 // Runs of the engine that a benchmark calls: each answers how many of its runs came to a yes.
+#![tactic(auto)]
+
 ghost use Rattle.std.specs.Prelude.{◌≤◌};
 
 use propagation::arc_table::ArcTable;

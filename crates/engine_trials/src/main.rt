@@ -1,4 +1,6 @@
 // Runs the engine over small and large graphs, and prints what it answers and what its two memories hold.
+#![tactic(auto)]
+
 use anyhow::anyhow;
 use graphs::{chain, circuit, two_ways};
 use propagation::arc_table::ArcTable;

@@ -1,4 +1,6 @@
 // What a board's log says: its lines, what is in force after them, and how each line is answered.
+#![tactic(auto)]
+
 pub mod pairing;
 pub mod refusal;
 pub mod spot;

@@ -1,4 +1,6 @@
 // Labels carried along the arcs of a constraint graph: one engine for every graph and every label.
+#![tactic(auto)]
+
 pub mod arc_table;
 pub mod engine;
 pub mod flow_layer;

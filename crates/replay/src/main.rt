@@ -1,4 +1,6 @@
 // Reads calls on boards from standard input, one a line, and prints each again with its answer.
+#![tactic(auto)]
+
 mod case;
 mod playing;
 

@@ -1,4 +1,6 @@
 // Whole logs: their lines performed on a fresh board, each with its answer.
+#![tactic(auto)]
+
 ghost use Rattle.std.specs.Prelude.{◌≡◌, length, IfOk};
 ghost use Rattle.logs.specs.Lines.{draft, lay};
 ghost use Rattle.logs.specs.Promise.{KeepsItsPromise};

@@ -1,4 +1,6 @@
 // The rows, columns and arcs of a shape as text.
+#![tactic(auto)]
+
 pub mod arc_text;
 pub mod file_text;
 pub mod part;

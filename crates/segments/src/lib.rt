@@ -1,4 +1,6 @@
 // Theorems on the chains of a shape. Each function answers a number, and its contract is the theorem.
+#![tactic(auto)]
+
 ghost use Rattle.std.specs.Prelude.{◌≡◌, ℕ};
 ghost use Rattle.segments.specs.Shapes.{Shape, Lawful, Point, steps};
 

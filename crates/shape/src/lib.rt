@@ -1,4 +1,6 @@
 // Sources of shapes: which points a wire joins, and on which side.
+#![tactic(auto)]
+
 pub mod copy;
 pub mod ends;
 mod header;

@@ -1,4 +1,6 @@
 // Runs the recorded shape files: each file's text, and one shape turned by quarters.
+#![tactic(auto)]
+
 use anyhow::anyhow;
 use report::file_text::file_text;
 use report::shape_text::shape_text;

@@ -1,4 +1,6 @@
 // Theorems on walks over numbered nodes. Each function answers a number, and its contract is the theorem.
+#![tactic(auto)]
+
 ghost use Rattle.std.specs.Prelude.{◌≡◌, ℕ, List, length};
 ghost use Rattle.walks.specs.Nodes.{Below, Distinct, FewDistinct, LongWalksSplit, WalksShorten};
 ghost use Rattle.walks.specs.Rounds.{Lawful, RoundsJoinWalks, JoinsAreOne, QuietStays};

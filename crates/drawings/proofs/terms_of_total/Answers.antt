@@ -4,4 +4,4 @@ use Rattle.drawings.proofs.Shortest.{lay_is_shortest, lay_total_is_flow}
 use Rattle.drawings.proofs.terms_of_total.Goals as goal
 
 pub returns : goal.returns
-returns c = record { goal = total_by_need _ _ (omega arith); shortest = lay_is_shortest; flow = lay_total_is_flow }
+returns c = record { need = total_by_need _ _ (omega arith); shortest = lay_is_shortest; flow = lay_total_is_flow }

@@ -7,6 +7,6 @@ use Rattle.replaying.proofs.perform_draft.Goals as goal
 
 pub returns : goal.returns
 returns c =
-    performs_as c.args.board.now c.args.board.now (ap draft (sym c.in-ok-places.ensures ∙ sym (ap length c.as-mut-slice.ensures.value)))
-    (c.drawing-answer.ensures ∙ ap (of_drawing c.draft-outcome.result) (with_items_is c.in-ok-places.places c.draft-outcome.new.points (c.draft-outcome.auto.points ∙ c.as-mut-slice.ensures.len)))
+    performs_as c.args.board.now c.args.board.now (ap draft (sym c.in_ok-places.ensures ∙ sym (ap length c.as_mut_slice.ensures.value)))
+    (c.drawing_answer.ensures ∙ ap (of_drawing c.draft-outcome.result) (with_items_is c.in_ok-places.places c.draft-outcome.new.points (c.draft-outcome.auto.points ∙ c.as_mut_slice.ensures.len)))
     (λ s log stands. (c.draft-outcome.ensures.answers s log stands, c.draft-outcome.ensures.stands s log stands))

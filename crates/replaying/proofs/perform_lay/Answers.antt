@@ -7,6 +7,6 @@ use Rattle.replaying.proofs.perform_lay.Goals as goal
 
 pub returns : goal.returns
 returns c =
-    performs_as c.args.board.now c.args.board.now (ap (λ (n : ℕ). lay n c.args.across.now c.args.up.now) (sym c.in-ok-places.ensures ∙ sym (ap length c.as-mut-slice.ensures.value)))
-    (c.drawing-answer.ensures ∙ ap (of_drawing c.lay-outcome.result) (with_items_is c.in-ok-places.places c.lay-outcome.new.points (c.lay-outcome.auto.points ∙ c.as-mut-slice.ensures.len)))
+    performs_as c.args.board.now c.args.board.now (ap (λ (n : ℕ). lay n c.args.across.now c.args.up.now) (sym c.in_ok-places.ensures ∙ sym (ap length c.as_mut_slice.ensures.value)))
+    (c.drawing_answer.ensures ∙ ap (of_drawing c.lay-outcome.result) (with_items_is c.in_ok-places.places c.lay-outcome.new.points (c.lay-outcome.auto.points ∙ c.as_mut_slice.ensures.len)))
     (λ s log stands. (c.lay-outcome.ensures.answers s log stands, c.lay-outcome.ensures.stands s log stands))

@@ -4,7 +4,7 @@ use Rattle.walks.proofs.last_round.Goals as goal
 
 pub returns : goal.returns
 returns c =
-    let split = c.arcs-to-repeat.ensures.splits in
+    let split = c.arcs_to_repeat.ensures.splits in
     record {
       least = settled_is_least _;
       one = least_is_one _;

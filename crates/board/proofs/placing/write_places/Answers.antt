@@ -7,8 +7,8 @@ use Rattle.board.proofs.placing.write_places.Goals as goal
 
 pub loop-index-preserved : goal.loop-index-preserved
 loop-index-preserved c =
-    let x = c.coordinate-of.ensures in
-    let y = c.coordinate-of-in-loop-index.ensures in
+    let x = c.coordinate_of.ensures in
+    let y = c.coordinate_of-in-loop-index.ensures in
     written_more nowhere (λ k q. q ≡ record { x = placed_at c.args.segments.now c.args.xs.now 0 (k + 1); y = placed_at c.args.segments.now c.args.ys.now 1 (k + 1) })
     c.loop-index.points c.loop-index.index _ (search rules) c.loop-index.invariant (cc)
 

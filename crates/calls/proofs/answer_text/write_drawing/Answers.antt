@@ -4,5 +4,5 @@ use Rattle.calls.proofs.answer_text.write_drawing.Goals as goal
 
 pub returns : goal.returns
 returns g c plain ok =
-    let total = c.in-ok-write.ensures.shows plain refl in
-    has_written_append g.W.Write.write_str_gives c.args.f.now (decimal c.args.total) c.write.new.self _ c.write-places.new.f total (c.write-places.ensures total.plain ok)
+    let total = c.in_ok-write.ensures.writes plain refl in
+    has_written_append g.W.Write.write_str_gives c.args.f.now (decimal c.args.total) c.write.new.self _ c.write_places.new.f total (c.write_places.ensures total.plain ok)

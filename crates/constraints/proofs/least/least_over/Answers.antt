@@ -5,5 +5,5 @@ pub returns : goal.returns
 returns g c =
     let p = g.G.ConstraintGraph in
     let s = c.args.graph.now in
-    let least = c.from-zero.ensures (p.size s) (p.gaps s) (p.bounds.at_most_128 s) c.in-ok-places.ensures in
+    let least = c.from_zero.ensures.of_graphs (p.size s) (p.gaps s) (p.bounds.at_most_128 s) c.in_ok-places.ensures in
     (least, least_numbers_low (p.size s) (p.gaps s) _ (p.bounds.at_most_128 s) (p.bounds.gaps_within_100 s) least)

@@ -8,11 +8,11 @@ use Rattle.constraints.proofs.least.least_places.Goals as goal
 pub returns-in-Ok-true : goal.returns-in-Ok-true
 returns-in-Ok-true g c =
     let s = g.S.ShapeSource.shape c.args.source.now in
-    let own = c.in-ok-table.ensures in
-    let t = c.in-ok-table.table in
-    let places = c.longest-places.new.places in
+    let own = c.in_ok-table.ensures in
+    let t = c.in_ok-table.table in
+    let places = c.longest_places.new.places in
     let long : length places ≡ s.points = search rules in
-    let least = c.longest-places.ensures.yes_gives_the_least_coordinates (search rules) in (
+    let least = c.longest_places.ensures.yes_gives_the_least_coordinates (search rules) in (
       own.0,
       (g.met.S.ShapeSource.lawful c.args.source.now).few,
       record {

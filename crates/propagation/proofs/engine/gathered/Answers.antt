@@ -4,7 +4,7 @@ use Rattle.walks.proofs.Labels.{pulled_none}
 use Rattle.propagation.specs.Engine.{at}
 use Rattle.propagation.proofs.Steps.{gathered_some}
 use Rattle.propagation.proofs.engine.gathered.Goals as goal
-use Rattle.propagation.proofs.engine.gathered.Goals.{in-Some, in-default}
+use Rattle.propagation.proofs.engine.gathered.Goals.{in-Some, in_default}
 
 pub loop-from-preserved : goal.loop-from-preserved
 loop-from-preserved g c =
@@ -20,5 +20,5 @@ loop-from-preserved g c =
           let carries : w.carry.result ≡ m.carry z x = w.carry.ensures ∙ ap (λ y. m.carry y x) (to_z-of_z w8 z (search rules)) in
           let more = gathered_some m gaps old c.args.to u sum z x (search rules) w.index-old-from.is c.loop-from.invariant w.in-Some.ensures in
           cc
-      | in-default w ↦ w.label-is ∙ pulled_none m gaps g.met.L.Label.lawful (at m old) c.args.to u sum c.loop-from.invariant w.in-default.ensures
+      | in_default w ↦ w.label-is ∙ pulled_none m gaps g.met.L.Label.lawful (at m old) c.args.to u sum c.loop-from.invariant w.in_default.ensures
     ]

@@ -10,8 +10,8 @@ loop-earlier-init g c =
 pub loop-earlier-preserved : goal.loop-earlier-preserved
 loop-earlier-preserved g c =
     let p = g.G.ConstraintGraph in
-    reached_more g.L.Label.meaning (p.size c.args.graph.now) (p.gaps c.args.graph.now) c.args.newest.now c.loop-earlier.-earlier
-    c.copy-from-slice.new.self c.round.new.new c.loop-earlier.invariant c.copy-from-slice.ensures.after (search rules) c.round.ensures.pulls c.round.result c.round.ensures.tells c.if-round.false
+    reached_more g.L.Label.meaning (p.size c.args.graph.now) (p.gaps c.args.graph.now) c.args.newest.now c.loop-earlier._earlier
+    c.copy_from_slice.new.self c.round.new.new c.loop-earlier.invariant c.copy_from_slice.ensures.after (search rules) c.round.ensures.pulls c.round.result c.round.ensures.tells c.if-round.false
 
 pub returns-then-round : goal.returns-then-round
 returns-then-round g c =
@@ -21,7 +21,7 @@ returns-then-round g c =
     let gaps = p.gaps c.args.graph.now in
     let start = c.args.newest.now in
     propagated m n gaps start c.args.before.now true (search rules) (search rules)
-    (ran_settled m n gaps start c.loop-earlier.-earlier c.copy-from-slice.new.self c.round.new.new c.loop-earlier.invariant c.copy-from-slice.ensures.after (search rules)
+    (ran_settled m n gaps start c.loop-earlier._earlier c.copy_from_slice.new.self c.round.new.new c.loop-earlier.invariant c.copy_from_slice.ensures.after (search rules)
     c.round.ensures.pulls c.round.result c.round.ensures.tells g.met.L.Label.lawful (search rules) (search rules) c.if-round.true)
 
 pub returns : goal.returns
@@ -32,4 +32,4 @@ returns g c =
     let gaps = p.gaps c.args.graph.now in
     let start = c.args.newest.now in
     propagated m n gaps start c.args.before.now false (search rules) (search rules)
-    (ran_all m n gaps start g.met.L.Label.lawful c.loop-earlier.-earlier (search rules) (p.bounds.one_or_more c.args.graph.now) (search rules) c.loop-earlier.invariant)
+    (ran_all m n gaps start g.met.L.Label.lawful c.loop-earlier._earlier (search rules) (p.bounds.one_or_more c.args.graph.now) (search rules) c.loop-earlier.invariant)

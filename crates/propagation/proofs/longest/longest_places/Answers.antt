@@ -6,5 +6,5 @@ pub returns : goal.returns
 returns g c =
     let p = g.G.ConstraintGraph in
     let s = c.args.graph.now in
-    longest (p.size s) (p.gaps s) (p.bounds.at_most_128 s) (p.bounds.gaps_within_100 s) c.start-at-zero.new.places (λ v h. c.start-at-zero.ensures v (search rules))
+    longest (p.size s) (p.gaps s) (p.bounds.at_most_128 s) (p.bounds.gaps_within_100 s) c.start_at_zero.new.places (λ v h. c.start_at_zero.ensures v (search rules))
     c.args.places.now _ c.propagate.new.newest c.propagate.new.before c.propagate.result (search rules) (search rules) (search rules) c.propagate.ensures

@@ -11,8 +11,8 @@ pub returns : goal.returns
 returns c =
     let r = c.clamp.result in
     let value = c.clamp.ensures.value in
-    let low = c.clamp.ensures.lower-bound in
-    let high = c.clamp.ensures.upper-bound in
+    let low = c.clamp.ensures.lower_bound in
+    let high = c.clamp.ensures.upper_bound in
     let wide : SFits w32 r = search rules in
     let narrow : SFits w16 r = near r low high in
     let sum : to_z w32 (of_z w32 (to_z w32 (of_z w32 c.from.result) +ℤ to_z w32 (of_z w32 c.from-2.result))) ≡ c.args.coordinate +ℤ c.args.gap = omega (arith, ints) in

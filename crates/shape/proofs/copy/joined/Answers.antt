@@ -5,7 +5,7 @@ use Rattle.shape.specs.Sources.{LeadsAs}
 use Rattle.shape.proofs.Following.{told_point}
 use Rattle.shape.proofs.Copying.{copied_join, copied_skip}
 use Rattle.shape.proofs.copy.joined.Goals as goal
-use Rattle.shape.proofs.copy.joined.Goals.{in-Some, in-default}
+use Rattle.shape.proofs.copy.joined.Goals.{in-Some, in_default}
 
 pub join-requires : goal.join-requires
 join-requires g c =
@@ -31,7 +31,7 @@ loop-index-preserved g c =
           let after = w.join.ensures in
           subst (Filled (LeadsAs s) s.points (i + 1)) (sym w.links-is)
           (copied_join s L i c.loop-index.links F (i % 2) (i / 2 + 1) at (omega arith) point w.in-Some.next w.in-Some.ensures w.join.new.self after.points after.there after.back after.others)
-      | in-default w ↦
+      | in_default w ↦
           subst (Filled (LeadsAs s) s.points (i + 1)) (sym w.links-is)
-          (copied_skip s L i c.loop-index.links F (i % 2) (i / 2 + 1) at (omega arith) point w.in-default.ensures)
+          (copied_skip s L i c.loop-index.links F (i % 2) (i / 2 + 1) at (omega arith) point w.in_default.ensures)
     ]

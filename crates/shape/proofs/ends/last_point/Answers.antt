@@ -17,4 +17,4 @@ loop-next-preserved g c =
 pub returns : goal.returns
 returns g c =
     let s = g.S.ShapeSource.shape c.args.source.now in
-    told_end s (g.met.S.ShapeSource.lawful c.args.source.now) c.args.side c.loop-next.at c.loop-next.invariant.0 c.args.point (search rules) c.in-default.ensures c.loop-next.invariant.1
+    told_end s (g.met.S.ShapeSource.lawful c.args.source.now) c.args.side c.loop-next.at c.loop-next.invariant.0 c.args.point (search rules) c.in_default.ensures c.loop-next.invariant.1

@@ -7,7 +7,7 @@ use Rattle.shape.proofs.old_sheet.is_taken.Goals as goal
 
 pub loop-lower-preserved : goal.loop-lower-preserved
 loop-lower-preserved c =
-    (search rules, passed_more (λ u. SharesSpot c.args.body.now u c.args.point) c.loop-lower.lower c.loop-lower.invariant.1 (not_from_Decides c.share-spot.result c.share-spot.ensures c.if-share-spot.false))
+    (search rules, passed_more (λ u. SharesSpot c.args.body.now u c.args.point) c.loop-lower.lower c.loop-lower.invariant.1 (not_from_Decides c.share_spot.result c.share_spot.ensures c.if-share_spot.false))
 
 pub returns : goal.returns
 returns c =

@@ -10,8 +10,8 @@ pub returns : goal.returns
 returns c =
     let n = c.args.points in
     let body = c.args.body.now in
-    let range = c.in-ok-check-joins.ensures in
-    let spots = c.in-ok-check-spots.ensures in
+    let range = c.in_ok-check_joins.ensures in
+    let spots = c.in_ok-check_spots.ensures in
     MatchResult-weaker c.joined.result c.joined.ensures
     (λ l F. record {
       flawless = (range, spots, λ v p. ended n body (n * 2) l F v p (λ d h. omega (arith, p.0, p.1)));

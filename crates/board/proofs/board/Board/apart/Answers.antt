@@ -8,23 +8,23 @@ use Rattle.board.proofs.Exits.{exit_is}
 use Rattle.board.proofs.Moving.{same_stands}
 use Rattle.board.proofs.board.Board.apart.Goals as goal
 
-pub returns-in-err-check-name : goal.returns-in-err-check-name
-returns-in-err-check-name c =
+pub returns-in_err-check_name : goal.returns-in_err-check_name
+returns-in_err-check_name c =
     record {
       answers = λ s log stands.
-          let r = c.in-err-check-name.ensures s log stands in
-          subst (λ o. Answers s (gap_of c.args.self.now) (apart c.args.row c.args.column) (of_pair o)) (sym (exit_is _ _ c.from-residual.ensures.1))
+          let r = c.in_err-check_name.ensures s log stands in
+          subst (λ o. Answers s (gap_of c.args.self.now) (apart c.args.row c.args.column) (of_pair o)) (sym (exit_is _ _ c.from_residual.ensures.1))
           (subst (RefusesPair s c.args.row c.args.column) (sym r.0) (no_segment c.args.row (inl (refl, r.1))));
       stands = λ s log stands. same_stands s log (apart c.args.row c.args.column ∷ log) c.args.self.now stands stands.force;
     }
 
-pub returns-in-err-check-name-2 : goal.returns-in-err-check-name-2
-returns-in-err-check-name-2 c =
+pub returns-in_err-check_name-2 : goal.returns-in_err-check_name-2
+returns-in_err-check_name-2 c =
     record {
       answers = λ s log stands.
-          let row = c.in-ok-check-name.ensures s log stands in
-          let r = c.in-err-check-name-2.ensures s log stands in
-          subst (λ o. Answers s (gap_of c.args.self.now) (apart c.args.row c.args.column) (of_pair o)) (sym (exit_is _ _ c.from-residual-in-err-check-name-2.ensures.1))
+          let row = c.in_ok-check_name.ensures s log stands in
+          let r = c.in_err-check_name-2.ensures s log stands in
+          subst (λ o. Answers s (gap_of c.args.self.now) (apart c.args.row c.args.column) (of_pair o)) (sym (exit_is _ _ c.from_residual-in_err-check_name-2.ensures.1))
           (subst (RefusesPair s c.args.row c.args.column) (sym r.0) (no_segment c.args.column (inr (refl, row, r.1))));
       stands = λ s log stands. same_stands s log (apart c.args.row c.args.column ∷ log) c.args.self.now stands stands.force;
     }
@@ -33,8 +33,8 @@ pub returns : goal.returns
 returns c =
     record {
       answers = λ s log stands.
-          let row = c.in-ok-check-name.ensures s log stands in
-          let column = c.in-ok-check-name-2.ensures s log stands in
+          let row = c.in_ok-check_name.ensures s log stands in
+          let column = c.in_ok-check_name-2.ensures s log stands in
           (c.pairing.result, refl, row, column, c.pairing.ensures s log stands row column);
       stands = λ s log stands. same_stands s log (apart c.args.row c.args.column ∷ log) c.args.self.now stands stands.force;
     }

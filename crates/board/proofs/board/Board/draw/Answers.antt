@@ -9,5 +9,5 @@ pub returns : goal.returns
 returns c s log stands draws =
     let b = c.args.self.now in
     let long = c.requires ∙ ap (λ (t : Shape). t.points) stands.shape in
-    hands_out s log b stands (coordinates c.args.xs.now c.args.ys.now) draws c.write-places.new.points (c.write-places.ensures.long ∙ long)
-    (c.write-places.ensures.places s (shape_lawful s log b stands) stands.segments long) c.total-length.result c.total-length.ensures
+    hands_out s log b stands (coordinates c.args.xs.now c.args.ys.now) draws c.write_places.new.points (c.write_places.ensures.long ∙ long)
+    (c.write_places.ensures.places s (shape_lawful s log b stands) stands.segments long) c.total_length.result c.total_length.ensures

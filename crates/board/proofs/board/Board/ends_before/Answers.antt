@@ -5,10 +5,10 @@ use Rattle.board.proofs.Pairing.{end_within, ends_on}
 use Rattle.board.proofs.Standing.{reaches_tells}
 use Rattle.board.proofs.board.Board.ends_before.Goals as goal
 
-pub returns-in-default-name : goal.returns-in-default-name
-returns-in-default-name c s log stands low named =
+pub returns-in_default-name : goal.returns-in_default-name
+returns-in_default-name c s log stands low named =
     let same : c.min.result ≡ c.args.direction = search rules in
-    absurd (c.in-default-name.ensures (low, end_within s log c.args.self.now stands c.args.direction low c.args.line named.1 c.min.result same c.in-Some.record c.in-Some.ensures.2))
+    absurd (c.in_default-name.ensures (low, end_within s log c.args.self.now stands c.args.direction low c.args.line named.1 c.min.result same c.in-Some.record c.in-Some.ensures.2))
 
 pub returns : goal.returns
 returns c s log stands low named =

@@ -9,12 +9,12 @@ returns-in-Ok-Open c s log stands =
     let e : c.apart.result ≡ Ok Open = search rules in
     decides_open s (gap_of c.args.self.now) c.args.row c.args.column c.apart.result (c.apart.ensures.answers s log stands) e
 
-pub returns-in-default : goal.returns-in-default
-returns-in-default c s log stands =
+pub returns-in_default : goal.returns-in_default
+returns-in_default c s log stands =
     let n : ¬ (c.apart.result ≡ Ok Open) = search rules in
     decides_not_open s (gap_of c.args.self.now) c.args.row c.args.column c.apart.result (c.apart.ensures.answers s log stands) n
 
-pub returns-in-default·2 : goal.returns-in-default·2
-returns-in-default·2 c s log stands =
+pub returns-in_default·2 : goal.returns-in_default·2
+returns-in_default·2 c s log stands =
     let n : ¬ (c.apart.result ≡ Ok Open) = search rules in
     decides_not_open s (gap_of c.args.self.now) c.args.row c.args.column c.apart.result (c.apart.ensures.answers s log stands) n

@@ -13,99 +13,99 @@ use Rattle.board.proofs.Laying.{memory_fits, cells_unfit, flow_refused, laid, gr
 use Rattle.board.proofs.Moving.{same_stands}
 use Rattle.board.proofs.board.Board.lay.Goals as goal
 
-pub returns-in-err-check-points : goal.returns-in-err-check-points
-returns-in-err-check-points c =
+pub returns-in_err-check_points : goal.returns-in_err-check_points
+returns-in_err-check_points c =
     let b = c.args.self.now in
     let places = c.args.points.now in
     let across = c.args.across.now in
     let up = c.args.up.now in
     record {
-      answers = λ s log stands. subst (λ r. Answers s (gap_of b) (lay (length places) across up) (of_drawing r places)) (sym (exit_is _ _ c.from-residual.ensures.1)) (by_points _ (c.in-err-check-points.ensures.fits s log stands));
+      answers = λ s log stands. subst (λ r. Answers s (gap_of b) (lay (length places) across up) (of_drawing r places)) (sym (exit_is _ _ c.from_residual.ensures.1)) (by_points _ (c.in_err-check_points.ensures.fits s log stands));
       stands = λ s log stands. same_stands s log (lay (length places) across up ∷ log) b stands stands.force;
       keeps = λ _. refl;
     }
 
-pub returns-in-err-check-cells : goal.returns-in-err-check-cells
-returns-in-err-check-cells c =
+pub returns-in_err-check_cells : goal.returns-in_err-check_cells
+returns-in_err-check_cells c =
     let b = c.args.self.now in
     let places = c.args.points.now in
     let across = c.args.across.now in
     let up = c.args.up.now in
     record {
       answers = λ s log stands.
-          let o = c.in-err-check-cells.ensures in
-          subst (λ r. Answers s (gap_of b) (lay (length places) across up) (of_drawing r places)) (sym (exit_is _ _ c.from-residual-in-err-check-cells.ensures.1))
-          (subst (RefusesLay s (gap_of b) (length places) across up) (sym o.0) (wrong_cells (c.in-ok-check-points.ensures.fits s log stands) (cells_unfit s log b stands b.segments.points across up stands.segments.points o.1)));
+          let o = c.in_err-check_cells.ensures in
+          subst (λ r. Answers s (gap_of b) (lay (length places) across up) (of_drawing r places)) (sym (exit_is _ _ c.from_residual-in_err-check_cells.ensures.1))
+          (subst (RefusesLay s (gap_of b) (length places) across up) (sym o.0) (wrong_cells (c.in_ok-check_points.ensures.fits s log stands) (cells_unfit s log b stands b.segments.points across up stands.segments.points o.1)));
       stands = λ s log stands. same_stands s log (lay (length places) across up ∷ log) b stands stands.force;
       keeps = λ _. refl;
     }
 
-pub returns-in-err-check-pairs : goal.returns-in-err-check-pairs
-returns-in-err-check-pairs c =
+pub returns-in_err-check_pairs : goal.returns-in_err-check_pairs
+returns-in_err-check_pairs c =
     let b = c.args.self.now in
     let places = c.args.points.now in
     let across = c.args.across.now in
     let up = c.args.up.now in
     record {
       answers = λ s log stands.
-          let fit = c.in-ok-check-points.ensures.fits s log stands in
-          let o = c.in-err-check-pairs.ensures s log stands in
-          subst (λ r. Answers s (gap_of b) (lay (length places) across up) (of_drawing r places)) (sym (exit_is _ _ c.from-residual-in-err-check-pairs.ensures.1))
-          (subst (RefusesLay s (gap_of b) (length places) across up) (sym o.2) (open_pair fit.0 (memory_fits s log b stands (length places) b.segments.points across up fit stands.segments.points c.in-ok-check-cells.ensures) o.0 o.1 o.3));
+          let fit = c.in_ok-check_points.ensures.fits s log stands in
+          let o = c.in_err-check_pairs.ensures s log stands in
+          subst (λ r. Answers s (gap_of b) (lay (length places) across up) (of_drawing r places)) (sym (exit_is _ _ c.from_residual-in_err-check_pairs.ensures.1))
+          (subst (RefusesLay s (gap_of b) (length places) across up) (sym o.2) (open_pair fit.0 (memory_fits s log b stands (length places) b.segments.points across up fit stands.segments.points c.in_ok-check_cells.ensures) o.0 o.1 o.3));
       stands = λ s log stands. same_stands s log (lay (length places) across up ∷ log) b stands stands.force;
       keeps = λ _. refl;
     }
 
-pub returns-in-err-check-flow : goal.returns-in-err-check-flow
-returns-in-err-check-flow c =
+pub returns-in_err-check_flow : goal.returns-in_err-check_flow
+returns-in_err-check_flow c =
     let b = c.args.self.now in
     let places = c.args.points.now in
     let across = c.args.across.now in
     let up = c.args.up.now in
     record {
       answers = λ s log stands.
-          let fit = c.in-ok-check-points.ensures.fits s log stands in
-          let memory = memory_fits s log b stands (length places) b.segments.points across up fit stands.segments.points c.in-ok-check-cells.ensures in
-          subst (λ r. Answers s (gap_of b) (lay (length places) across up) (of_drawing r places)) (sym (exit_is _ _ c.from-residual-in-err-check-flow.ensures.1))
-          (flow_refused s (gap_of b) (length places) across up fit.0 memory (c.in-ok-check-pairs.ensures s log stands) _ (c.in-err-check-flow.ensures s log stands));
+          let fit = c.in_ok-check_points.ensures.fits s log stands in
+          let memory = memory_fits s log b stands (length places) b.segments.points across up fit stands.segments.points c.in_ok-check_cells.ensures in
+          subst (λ r. Answers s (gap_of b) (lay (length places) across up) (of_drawing r places)) (sym (exit_is _ _ c.from_residual-in_err-check_flow.ensures.1))
+          (flow_refused s (gap_of b) (length places) across up fit.0 memory (c.in_ok-check_pairs.ensures s log stands) _ (c.in_err-check_flow.ensures s log stands));
       stands = λ s log stands. same_stands s log (lay (length places) across up ∷ log) b stands stands.force;
       keeps = λ _. refl;
     }
 
-pub returns-in-err-xs : goal.returns-in-err-xs
-returns-in-err-xs c =
+pub returns-in_err-xs : goal.returns-in_err-xs
+returns-in_err-xs c =
     let b = c.args.self.now in
     let places = c.args.points.now in
     let across = c.args.across.now in
     let up = c.args.up.now in
     record {
       answers = λ s log stands.
-          let fit = c.in-ok-check-points.ensures.fits s log stands in
-          let memory = memory_fits s log b stands (length places) b.segments.points across up fit stands.segments.points c.in-ok-check-cells.ensures in
-          let flows = c.in-ok-check-flow.ensures s log stands in
-          let o = c.in-err-xs.ensures s log stands (omega arith) (flows 0 (omega arith)) in
-          subst (λ r. Answers s (gap_of b) (lay (length places) across up) (of_drawing r places)) (sym (exit_is _ _ c.from-residual-in-err-xs.ensures.1))
-          (subst (RefusesLay s (gap_of b) (length places) across up) (sym o.0) (not_greatest fit.0 memory (c.in-ok-check-pairs.ensures s log stands) flows 0 (omega arith) (λ d h. absurd (omega arith)) o.1));
+          let fit = c.in_ok-check_points.ensures.fits s log stands in
+          let memory = memory_fits s log b stands (length places) b.segments.points across up fit stands.segments.points c.in_ok-check_cells.ensures in
+          let flows = c.in_ok-check_flow.ensures s log stands in
+          let o = c.in_err-xs.ensures s log stands (omega arith) (flows 0 (omega arith)) in
+          subst (λ r. Answers s (gap_of b) (lay (length places) across up) (of_drawing r places)) (sym (exit_is _ _ c.from_residual-in_err-xs.ensures.1))
+          (subst (RefusesLay s (gap_of b) (length places) across up) (sym o.0) (not_greatest fit.0 memory (c.in_ok-check_pairs.ensures s log stands) flows 0 (omega arith) (λ d h. absurd (omega arith)) o.1));
       stands = λ s log stands. same_stands s log (lay (length places) across up ∷ log) b stands stands.force;
       keeps = λ _. refl;
     }
 
-pub returns-in-err-ys : goal.returns-in-err-ys
-returns-in-err-ys c =
+pub returns-in_err-ys : goal.returns-in_err-ys
+returns-in_err-ys c =
     let b = c.args.self.now in
     let places = c.args.points.now in
     let across = c.args.across.now in
     let up = c.args.up.now in
     record {
       answers = λ s log stands.
-          let fit = c.in-ok-check-points.ensures.fits s log stands in
-          let memory = memory_fits s log b stands (length places) b.segments.points across up fit stands.segments.points c.in-ok-check-cells.ensures in
-          let flows = c.in-ok-check-flow.ensures s log stands in
-          let first = greatest_along s log b stands across up 0 (omega arith) (flows 0 (omega arith)) _ (c.in-ok-xs.ensures s log stands (omega arith) (flows 0 (omega arith))) in
-          let o = c.in-err-ys.ensures s log stands (omega arith) (flows 1 (omega arith)) in
-          subst (λ r. Answers s (gap_of b) (lay (length places) across up) (of_drawing r places)) (sym (exit_is _ _ c.from-residual-in-err-ys.ensures.1))
+          let fit = c.in_ok-check_points.ensures.fits s log stands in
+          let memory = memory_fits s log b stands (length places) b.segments.points across up fit stands.segments.points c.in_ok-check_cells.ensures in
+          let flows = c.in_ok-check_flow.ensures s log stands in
+          let first = greatest_along s log b stands across up 0 (omega arith) (flows 0 (omega arith)) _ (c.in_ok-xs.ensures s log stands (omega arith) (flows 0 (omega arith))) in
+          let o = c.in_err-ys.ensures s log stands (omega arith) (flows 1 (omega arith)) in
+          subst (λ r. Answers s (gap_of b) (lay (length places) across up) (of_drawing r places)) (sym (exit_is _ _ c.from_residual-in_err-ys.ensures.1))
           (subst (RefusesLay s (gap_of b) (length places) across up) (sym o.0)
-          (not_greatest fit.0 memory (c.in-ok-check-pairs.ensures s log stands) flows 1 (omega arith) (before_up (λ d. GreatestAlong s (gap_of b) d (flow_of s across up d)) first) o.1));
+          (not_greatest fit.0 memory (c.in_ok-check_pairs.ensures s log stands) flows 1 (omega arith) (before_up (λ d. GreatestAlong s (gap_of b) d (flow_of s across up d)) first) o.1));
       stands = λ s log stands. same_stands s log (lay (length places) across up ∷ log) b stands stands.force;
       keeps = λ _. refl;
     }
@@ -116,15 +116,15 @@ returns c =
     let places = c.args.points.now in
     let across = c.args.across.now in
     let up = c.args.up.now in
-    let xs = c.in-ok-xs.xs in
-    let ys = c.in-ok-ys.ys in
+    let xs = c.in_ok-xs.xs in
+    let ys = c.in_ok-ys.ys in
     record {
       answers = λ s log stands.
-          let fit = c.in-ok-check-points.ensures.fits s log stands in
-          let none = c.in-ok-check-pairs.ensures s log stands in
-          let flows = c.in-ok-check-flow.ensures s log stands in
-          let lx = c.in-ok-xs.ensures s log stands (omega arith) (flows 0 (omega arith)) in
-          let ly = c.in-ok-ys.ensures s log stands (omega arith) (flows 1 (omega arith)) in
+          let fit = c.in_ok-check_points.ensures.fits s log stands in
+          let none = c.in_ok-check_pairs.ensures s log stands in
+          let flows = c.in_ok-check_flow.ensures s log stands in
+          let lx = c.in_ok-xs.ensures s log stands (omega arith) (flows 0 (omega arith)) in
+          let ly = c.in_ok-ys.ensures s log stands (omega arith) (flows 1 (omega arith)) in
           let d = laid s log b stands across up flows xs ys lx ly in (
             c.draw.result,
             c.draw.new.points,
@@ -132,7 +132,7 @@ returns c =
             refl,
             record {
               drawable = fit.0;
-              fits = memory_fits s log b stands (length places) b.segments.points across up fit stands.segments.points c.in-ok-check-cells.ensures;
+              fits = memory_fits s log b stands (length places) b.segments.points across up fit stands.segments.points c.in_ok-check_cells.ensures;
               none_open = none;
               greatest = each_direction (λ dir. GreatestAlong s (gap_of b) dir (flow_of s across up dir)) (greatest_along s log b stands across up 0 (omega arith) (flows 0 (omega arith)) _ lx) (greatest_along s log b stands across up 1 (omega arith) (flows 1 (omega arith)) _ ly);
             },

@@ -14,53 +14,53 @@ use Rattle.board.proofs.Standing.{not_true, has_tells, own_tells}
 use Rattle.board.proofs.Moving.{refused_strike_stands, struck_stands}
 use Rattle.board.proofs.board.Board.strike.Goals as goal
 
-pub returns-in-err-check-change : goal.returns-in-err-check-change
-returns-in-err-check-change c =
+pub returns-in_err-check_change : goal.returns-in_err-check_change
+returns-in_err-check_change c =
     let b = c.args.self.now in
     let dir = c.args.direction in
     record {
-      answers = λ s log stands. subst (λ r. Answers s (gap_of b) (strike dir c.args.from c.args.to) (of_change r)) (sym (exit_is _ _ c.from-residual.ensures.1)) (by_change _ (c.in-err-check-change.ensures s log stands));
-      stands = λ s log stands. refused_strike_stands s log b dir c.args.from c.args.to stands (strike_never_both s (gap_of b) dir c.args.from c.args.to _ (by_change _ (c.in-err-check-change.ensures s log stands)));
+      answers = λ s log stands. subst (λ r. Answers s (gap_of b) (strike dir c.args.from c.args.to) (of_change r)) (sym (exit_is _ _ c.from_residual.ensures.1)) (by_change _ (c.in_err-check_change.ensures s log stands));
+      stands = λ s log stands. refused_strike_stands s log b dir c.args.from c.args.to stands (strike_never_both s (gap_of b) dir c.args.from c.args.to _ (by_change _ (c.in_err-check_change.ensures s log stands)));
       keeps = λ _. refl;
     }
 
 gone : (c : goal.Then-not-has) (s : Shape) (log : List Line) → Stands s log c.args.self.now → ¬ Arc (gap_of c.args.self.now) c.args.direction c.args.from c.args.to
 gone c s log stands =
-    let may = c.in-ok-check-change.ensures s log stands in
+    let may = c.in_ok-check_change.ensures s log stands in
     not_true c.has.result (has_tells s log c.args.self.now stands c.args.direction c.args.from c.args.to may.0.0 _ c.arcs.ensures c.has.result c.has.ensures) (search rules)
 
 pub returns-then-not-has : goal.returns-then-not-has
 returns-then-not-has c =
     record {
-      answers = λ s log stands. not_in_force (c.in-ok-check-change.ensures s log stands) (gone c s log stands);
+      answers = λ s log stands. not_in_force (c.in_ok-check_change.ensures s log stands) (gone c s log stands);
       stands = λ s log stands. refused_strike_stands s log c.args.self.now c.args.direction c.args.from c.args.to stands (λ w. gone c s log stands w.in_force);
       keeps = λ _. refl;
     }
 
-given : (c : goal.Then-is-own) (s : Shape) (log : List Line) → Stands s log c.args.self.now → Arc (gap_of c.args.self.now) c.args.direction c.args.from c.args.to × ShapeArc s c.args.direction c.args.from c.args.to
+given : (c : goal.Then-is_own) (s : Shape) (log : List Line) → Stands s log c.args.self.now → Arc (gap_of c.args.self.now) c.args.direction c.args.from c.args.to × ShapeArc s c.args.direction c.args.from c.args.to
 given c s log stands =
-    let may = c.in-ok-check-change.ensures s log stands in (
+    let may = c.in_ok-check_change.ensures s log stands in (
       (has_tells s log c.args.self.now stands c.args.direction c.args.from c.args.to may.0.0 _ c.arcs.ensures c.has.result c.has.ensures).0 (search rules),
-      (own_tells s log c.args.self.now stands c.args.direction c.args.from c.args.to may.0.0 _ c.arcs-2.ensures c.is_own.result c.is_own.ensures).0 c.if-is-own.true,
+      (own_tells s log c.args.self.now stands c.args.direction c.args.from c.args.to may.0.0 _ c.arcs-2.ensures c.is_own.result c.is_own.ensures).0 c.if-is_own.true,
     )
 
-pub returns-then-is-own : goal.returns-then-is-own
-returns-then-is-own c =
+pub returns-then-is_own : goal.returns-then-is_own
+returns-then-is_own c =
     record {
-      answers = λ s log stands. let g = given c s log stands in given_by_shape (c.in-ok-check-change.ensures s log stands) g.0 g.1;
+      answers = λ s log stands. let g = given c s log stands in given_by_shape (c.in_ok-check_change.ensures s log stands) g.0 g.1;
       stands = λ s log stands. refused_strike_stands s log c.args.self.now c.args.direction c.args.from c.args.to stands (λ w. w.not-own (given c s log stands).1);
       keeps = λ _. refl;
     }
 
 accepts : (c : goal.After-withdraw) (s : Shape) (log : List Line) → Stands s log c.args.self.now → AcceptsStrike s (Arc (gap_of c.args.self.now)) c.args.direction c.args.from c.args.to
 accepts c s log stands =
-    let may = c.in-ok-check-change.ensures s log stands in
+    let may = c.in_ok-check_change.ensures s log stands in
     record {
       from = may.0;
       to = may.1;
       drawable = may.2;
       in_force = (has_tells s log c.args.self.now stands c.args.direction c.args.from c.args.to may.0.0 _ c.arcs.ensures c.has.result c.has.ensures).0 (search rules);
-      not_own = not_true c.is_own.result (own_tells s log c.args.self.now stands c.args.direction c.args.from c.args.to may.0.0 _ c.arcs-2.ensures c.is_own.result c.is_own.ensures) c.if-is-own.false;
+      not_own = not_true c.is_own.result (own_tells s log c.args.self.now stands c.args.direction c.args.from c.args.to may.0.0 _ c.arcs-2.ensures c.is_own.result c.is_own.ensures) c.if-is_own.false;
     }
 
 pub returns : goal.returns

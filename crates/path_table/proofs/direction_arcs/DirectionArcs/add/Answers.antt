@@ -4,5 +4,5 @@ use Rattle.path_table.proofs.direction_arcs.DirectionArcs.add.Goals as goal
 
 pub returns : goal.returns
 returns c =
-    added c.args.self.now c.set.new.self c.join-rows.new.paths c.args.a c.args.b (search rules) (search rules) c.set.ensures c.leading-to-before.result c.led-from-beyond.result
-    c.leading-to-before.ensures c.led-from-beyond.ensures c.join-rows.ensures
+    added c.args.self.now c.set.new.self c.join_rows.new.paths c.args.a c.args.b (search rules) (search rules) c.set.ensures c.leading_to-before.result c.led_from-beyond.result
+    c.leading_to-before.ensures c.led_from-beyond.ensures c.join_rows.ensures

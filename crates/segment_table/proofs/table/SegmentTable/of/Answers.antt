@@ -3,7 +3,7 @@ use Rattle.segments.specs.Shapes.{Point}
 use Rattle.segment_table.specs.Records.{Counted}
 use Rattle.segment_table.proofs.Counting.{no_wire, room, counted_skip, counted_wire, counted_all}
 use Rattle.segment_table.proofs.table.SegmentTable.of.Goals as goal
-use Rattle.segment_table.proofs.table.SegmentTable.of.Goals.{in-Some, in-default}
+use Rattle.segment_table.proofs.table.SegmentTable.of.Goals.{in-Some, in_default}
 
 pub count-requires : goal.count-requires
 count-requires g c =
@@ -30,15 +30,15 @@ loop-index-preserved g c =
     let more : i < s.points * 2 = search rules in
     let point : Point s (i / 2 + 1) = (omega arith, omega arith) in
     let at : i ≡ (i / 2 + 1 - 1) * 2 + i % 2 = omega arith in
-    elim c.match-own-arc.branch [
+    elim c.match-own_arc.branch [
       | in-Some w ↦
           let told = w.in-Some.ensures in
           let after = w.count.ensures in
           subst (Counted s (i + 1)) (sym w.table-is)
           (counted_wire s i (i % 2) (i / 2 + 1) at (omega arith) point c.loop-index.table c.loop-index.invariant w.in-Some.arc.from w.in-Some.arc.to few told.0.2 told.3 told.4 w.count.new.self after.points after.names after.ends after.near after.far)
-      | in-default w ↦
+      | in_default w ↦
           subst (Counted s (i + 1)) (sym w.table-is)
-          (counted_skip s i (i % 2) (i / 2 + 1) at (omega arith) point c.loop-index.table c.loop-index.invariant (no_wire s (i % 2) (i / 2 + 1) (omega arith) point w.in-default.ensures))
+          (counted_skip s i (i % 2) (i / 2 + 1) at (omega arith) point c.loop-index.table c.loop-index.invariant (no_wire s (i % 2) (i / 2 + 1) (omega arith) point w.in_default.ensures))
     ]
 
 pub returns : goal.returns

@@ -4,11 +4,11 @@ use Rattle.shape.specs.Tables.{of_links}
 use Rattle.shape.specs.Keeping.{empty_next}
 use Rattle.shape.proofs.neighbours.Neighbours.unjoined.Goals as goal
 
-pub invariant-of-result : goal.invariant-of-result
-invariant-of-result c =
+pub invariant_of-result : goal.invariant_of-result
+invariant_of-result c =
     let l = c.unjoined.result in
     let points = c.unjoined.ensures.points in
-    (∣ unwired_lawful (of_links l) (omega (arith, c.requires.0)) (omega (arith, c.requires.1)) (empty_next l c.unjoined.ensures.cells) ∣₁, tt)
+    record { lawful = ∣ unwired_lawful (of_links l) (omega (arith, c.requires.0)) (omega (arith, c.requires.1)) (empty_next l c.unjoined.ensures.cells) ∣₁ }
 
 pub returns : goal.returns
 returns c = record { points = c.unjoined.ensures.points; next = empty_next c.unjoined.result c.unjoined.ensures.cells }
