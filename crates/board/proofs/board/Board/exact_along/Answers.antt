@@ -15,7 +15,7 @@ returns-in-Some c s log stands h flow =
     let dir = c.args.direction in
     let P : ℕ → Gaps → Type 0 = λ n G. Least n G (λ v. pos (get_or c.in-Some.coordinates v 0)) in
     subst (λ (list : List ℕ). P s.points (layer (graph (gap_of b) dir) (cells (cell_of s.points list)))) c.new-layer.ensures.holds
-    (along_layer s log b stands dir h c.new-layer.result.below.now (c.new-layer.ensures.stands-over ∙ c.graph.ensures ∙ ap (λ (t : DirectionArcs). t.force) c.arcs.ensures)
+    (along_layer s log b stands dir h c.new-layer.result.below.now (c.new-layer.ensures.stands_over ∙ c.graph.ensures ∙ ap (λ (t : DirectionArcs). t.force) c.arcs.ensures)
     c.new-layer.result.cells.now P c.in-Some.ensures.0)
 
 pub returns-in-None : goal.returns-in-None
@@ -25,6 +25,6 @@ returns-in-None c s log stands h flow =
       refl,
       circuit_less s log b stands dir h (cell_of s.points c.args.cells.now) flow
           (subst (λ (list : List ℕ). GainingCircuit s.points (layer (graph (gap_of b) dir) (cells (cell_of s.points list)))) c.new-layer.ensures.holds
-          (along_layer s log b stands dir h c.new-layer.result.below.now (c.new-layer.ensures.stands-over ∙ c.graph.ensures ∙ ap (λ (t : DirectionArcs). t.force) c.arcs.ensures)
+          (along_layer s log b stands dir h c.new-layer.result.below.now (c.new-layer.ensures.stands_over ∙ c.graph.ensures ∙ ap (λ (t : DirectionArcs). t.force) c.arcs.ensures)
           c.new-layer.result.cells.now GainingCircuit c.in-None.ensures)),
     )

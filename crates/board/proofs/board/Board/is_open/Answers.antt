@@ -14,7 +14,7 @@ returns-in_default c s log stands =
     let n : ¬ (c.apart.result ≡ Ok Open) = search rules in
     decides_not_open s (gap_of c.args.self.now) c.args.row c.args.column c.apart.result (c.apart.ensures.answers s log stands) n
 
-pub returns-in_default·2 : goal.returns-in_default·2
-returns-in_default·2 c s log stands =
+pub returns-in_default-2 : goal.returns-in_default-2
+returns-in_default-2 c s log stands =
     let n : ¬ (c.apart.result ≡ Ok Open) = search rules in
     decides_not_open s (gap_of c.args.self.now) c.args.row c.args.column c.apart.result (c.apart.ensures.answers s log stands) n

@@ -48,7 +48,7 @@ pub returns-then-is_own : goal.returns-then-is_own
 returns-then-is_own c =
     record {
       answers = λ s log stands. let g = given c s log stands in given_by_shape (c.in_ok-check_change.ensures s log stands) g.0 g.1;
-      stands = λ s log stands. refused_strike_stands s log c.args.self.now c.args.direction c.args.from c.args.to stands (λ w. w.not-own (given c s log stands).1);
+      stands = λ s log stands. refused_strike_stands s log c.args.self.now c.args.direction c.args.from c.args.to stands (λ w. w.not_own (given c s log stands).1);
       keeps = λ _. refl;
     }
 
