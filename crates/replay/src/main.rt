@@ -31,10 +31,10 @@ fn run(rt: &HostRuntime) -> anyhow::Result<()> {
             }
             Step::Read(Command::Call(line)) => match &mut current {
                 Some(case) => case.calls.push(line)?,
-                None => return Err(unreadable(rt, at, "no case stands before it")?),
+                None => return Err(unreadable(at, "no case stands before it")),
             },
             Step::Unreadable { line } => {
-                return Err(unreadable(rt, line, "it is no call in the format")?);
+                return Err(unreadable(line, "it is no call in the format"));
             }
             Step::End => break,
         }

@@ -1,5 +1,6 @@
 // A case is played on a board over its turned shape, and printed with the answers.
 use crate::case::Case;
+use anyhow::anyhow;
 use calls::hex::Hex;
 use replaying::replay;
 use shape::old_sheet::OldSheet;
@@ -8,13 +9,8 @@ use shape::source::ShapeSource;
 use shape::turned::Turned;
 
 // What is said of a line that cannot be read.
-pub(crate) fn unreadable(
-    rt: &HostRuntime,
-    line: usize,
-    why: &str,
-) -> anyhow::Result<anyhow::Error> {
-    let sentence = format!(in rt.alloc(); "line {line} cannot be read: {why}")?;
-    Ok(sentence.into())
+pub(crate) fn unreadable(line: usize, why: &str) -> anyhow::Error {
+    anyhow!("line {line} cannot be read: {why}")
 }
 
 fn play_over<S: ShapeSource>(rt: &HostRuntime, source: &S, case: &Case) -> anyhow::Result<()> {
@@ -40,5 +36,5 @@ pub(crate) fn play(rt: &HostRuntime, case: &Case) -> anyhow::Result<()> {
     if sheet.read(case.shape.as_slice()).is_ok() {
         return play_over(rt, &Turned::new(sheet, case.turns), case);
     }
-    Err(unreadable(rt, case.at, "its shape is refused")?)
+    Err(unreadable(case.at, "its shape is refused"))
 }
