@@ -3,6 +3,7 @@
 
 use report::file_text::file_text;
 use std::fs;
+use std::process::ExitCode;
 
 const SHAPE: &str = "shape.bin";
 
@@ -13,10 +14,13 @@ fn run(rt: &HostRuntime) -> anyhow::Result<()> {
     Ok(())
 }
 
-fn main(rt: HostRuntime) -> anyhow::Result<()> {
-    let outcome = run(&rt);
-    if let Err(error) = &outcome {
-        eprintln!(rt; "compact: {SHAPE} cannot be read and reported: {error}")?;
+// Whether the sentence could be written makes no difference to the status.
+fn main(rt: HostRuntime) -> ExitCode {
+    match run(&rt) {
+        Ok(_) => ExitCode::SUCCESS,
+        Err(error) => {
+            let _ = eprintln!(rt; "compact: {SHAPE} cannot be read and reported: {error}");
+            ExitCode::FAILURE
+        }
     }
-    outcome
 }

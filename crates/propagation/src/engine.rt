@@ -9,8 +9,8 @@ use crate::refusal::Refusal;
 
 // A node's old label, joined with what every node sends to it.
 fn gathered<G: ConstraintGraph, L: Label>(graph: &G, old: &[L], to: usize) -> L
-    requires len { length old.now ≡ G.ConstraintGraph.size graph.now }
-    requires to_in_bounds { to < length old.now }
+    requires one_label_a_node { length old.now ≡ G.ConstraintGraph.size graph.now }
+    requires to_is_a_node { to < length old.now }
     ensures { result ≡ pulled L.Label.meaning (G.ConstraintGraph.gaps graph.now) (at L.Label.meaning old.now) to (length old.now) }
 {
     let mut label = old[to];
@@ -24,8 +24,8 @@ fn gathered<G: ConstraintGraph, L: Label>(graph: &G, old: &[L], to: usize) -> L
 
 // One round, from the old labels to the new ones; says whether they are the same.
 fn round<G: ConstraintGraph, L: Label>(graph: &G, old: &[L], new: &mut [L]) -> bool
-    requires len { length old.now ≡ G.ConstraintGraph.size graph.now }
-    requires len_2 { length new.old ≡ length old.now }
+    requires one_label_a_node { length old.now ≡ G.ConstraintGraph.size graph.now }
+    requires as_many_new { length new.old ≡ length old.now }
     ensures pulls { (v : ℕ) → v < length old.now → at L.Label.meaning new.new v ≡ pulled L.Label.meaning (G.ConstraintGraph.gaps graph.now) (at L.Label.meaning old.now) v (length old.now) }
     ensures tells { Decides result (Same L.Label.meaning old.now new.new) }
 {

@@ -34,9 +34,9 @@ fn found<G: ConstraintGraph>(
     newest: &mut [Reach],
     before: &mut [Reach],
 ) -> bool
-    requires newest_len { length newest.old ≡ G.ConstraintGraph.size graph.now }
-    requires before_len { length before.old ≡ G.ConstraintGraph.size graph.now }
-    requires to_bound { to < G.ConstraintGraph.size graph.now }
+    requires newest_fits { length newest.old ≡ G.ConstraintGraph.size graph.now }
+    requires before_fits { length before.old ≡ G.ConstraintGraph.size graph.now }
+    requires to_is_a_node { to < G.ConstraintGraph.size graph.now }
     ensures { Decides result (Leads (G.ConstraintGraph.size graph.now) (G.ConstraintGraph.gaps graph.now) from to) }
 {
     for node in 0..newest.len() {

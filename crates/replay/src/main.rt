@@ -9,6 +9,7 @@ use calls::commands::{Commands, Step};
 use case::Case;
 use playing::{play, unreadable};
 use std::io;
+use std::process::ExitCode;
 
 // Plays each case when the next begins, and the last at the end.
 fn run(rt: &HostRuntime) -> anyhow::Result<()> {
@@ -45,10 +46,13 @@ fn run(rt: &HostRuntime) -> anyhow::Result<()> {
     }
 }
 
-fn main(rt: HostRuntime) -> anyhow::Result<()> {
-    let outcome = run(&rt);
-    if let Err(error) = &outcome {
-        eprintln!(rt; "replay: {error}")?;
+// Whether the sentence could be written makes no difference to the status.
+fn main(rt: HostRuntime) -> ExitCode {
+    match run(&rt) {
+        Ok(_) => ExitCode::SUCCESS,
+        Err(error) => {
+            let _ = eprintln!(rt; "replay: {error}");
+            ExitCode::FAILURE
+        }
     }
-    outcome
 }
