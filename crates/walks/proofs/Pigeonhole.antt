@@ -1,15 +1,15 @@
 -- Distinct nodes below n are at most n. Assumes nothing.
 use Rattle.std.proofs.Common.{◌≡◌, ℕ, zero, suc, ◌<◌, ◌≤◌, ◌≢◌, ◌⊎◌, List, [], ◌∷◌, ◌++◌, length, sym, refl, ap, subst, inl, inr, arith, length-append}
 use native.Mathlib.Decide.{ℕ_discrete}
-use Rattle.std.specs.List.{AllByRecursion as All}
+use Rattle.std.specs.List.{AllByRecursion}
 use Rattle.std.proofs.ByRecursion.{All-append, All-weaker}
 use Rattle.walks.specs.Nodes.{Below, Apart, Distinct}
 
-pub all_front : (P : ℕ → Type 0) (p q : List ℕ) → All P (p ++ q) → All P p
+pub all_front : (P : ℕ → Type 0) (p q : List ℕ) → AllByRecursion P (p ++ q) → AllByRecursion P p
 all_front P [] q h = tt
 all_front P (x ∷ p) q h = (h.0, all_front P p q h.1)
 
-pub all_back : (P : ℕ → Type 0) (p q : List ℕ) → All P (p ++ q) → All P q
+pub all_back : (P : ℕ → Type 0) (p q : List ℕ) → AllByRecursion P (p ++ q) → AllByRecursion P q
 all_back P [] q h = h
 all_back P (x ∷ p) q h = all_back P p q h.1
 

@@ -1,15 +1,15 @@
 -- Lists of nodes, which are the numbers below n, and walks and circuits along arcs with gaps. Assumes nothing.
 use Rattle.std.specs.Prelude.{◌≡◌, ℕ, ◌<◌, ◌≤◌, T, ◌≢◌, List, [], ◌∷◌, ◌++◌, length, ℤ, pos, ◌+ℤ◌, is_some, Option}
-use Rattle.std.specs.List.{AllByRecursion as All}
+use Rattle.std.specs.List.{AllByRecursion}
 use Rattle.std.specs.Option.{unwrap_or}
 
 -- every member of l is a node
 abbrev pub Below : ℕ → List ℕ → Type 0
-Below n l = All (λ x. x < n) l
+Below n l = AllByRecursion (λ x. x < n) l
 
 -- x is no member of l
 abbrev pub Apart : ℕ → List ℕ → Type 0
-Apart x l = All (λ y. x ≢ y) l
+Apart x l = AllByRecursion (λ y. x ≢ y) l
 
 -- no node stands twice in l
 abbrev pub Distinct : List ℕ → Type 0
