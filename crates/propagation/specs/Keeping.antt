@@ -1,5 +1,5 @@
 -- The graphs of the code keep to the bounds of every graph. Assumes nothing.
--- Each proof is the value of a ghost member, which only what stands in specs can be.
+-- Each proof is the value of a ghost member.
 use Rattle.std.specs.Prelude.{◌≡◌, ℕ, ◌+◌, ◌*◌, Bool, true, false, cond, ◌&&◌, T, ◌⊎◌, List, ℤ, pos, neg_ℤ, is_some, Some, None, Option, nat_lt, slice_index_or}
 use Rattle.std.proofs.Common.{inl, inr, arith, ltb→lt}
 use Rattle.std.proofs.lemmas.Int.{ints}

@@ -12,7 +12,7 @@ pub trait ConstraintGraph {
     // Where an arc leads from one node to another, its gap.
     ghost gaps: { Self → Gaps };
 
-    // What every graph keeps to. It is a member, since a law cannot be asked of a graph that borrows.
+    // What every graph keeps to: each kind of graph gives a proof of it.
     ghost bounds: { Bounds size gaps };
 
     fn nodes(&self) -> usize
