@@ -1,12 +1,12 @@
 -- The cells of a flow memory: where each lies, what they sum to, and the layer over them. Assumes nothing.
-use Rattle.std.proofs.Common.{◌≡◌, ℕ, zero, suc, ◌+◌, ◌-◌, ◌*◌, ◌^◌, ◌<◌, ◌≤◌, min, Bool, true, false, cond, not, ◌&&◌, eqb, ◌↔◌, List, length, get_or, ℤ, pos, ◌-ℤ◌, Decides, sym, refl, ap, ◌∙◌, subst, ap₂, mul-le-mul_right, mul_comm, add-mul, arith}
+use Rattle.std.proofs.Common.{◌≡◌, ℕ, zero, suc, ◌+◌, ◌-◌, ◌*◌, ◌^◌, ◌<◌, ◌≤◌, min, Bool, true, false, cond, not, ◌&&◌, eqb, ◌↔◌, List, get_or, Decides, sym, ap, ◌∙◌, subst, ap₂, mul-le-mul_right, add-mul, arith}
 use mathlib.Core.Path.{fun_ext}
 use Rattle.std.proofs.lemmas.Bool.{eqb-true, eq-eqb}
 use Rattle.walks.specs.Sums.{sum}
 use Rattle.walks.proofs.Folds.{sum_same}
-use Rattle.segments.specs.Shapes.{Shape, Lawful, Within, Point}
+use Rattle.segments.specs.Shapes.{Shape, Lawful, Within}
 use Rattle.segments.specs.Segments.{segment}
-use Rattle.drawings.specs.Flows.{incoming, outgoing, need, near_ends_of, far_ends_of, BalancedAt}
+use Rattle.drawings.specs.Flows.{incoming, outgoing, near_ends_of, far_ends_of, BalancedAt}
 use Rattle.drawings.specs.Graphs.{cells}
 use Rattle.drawings.proofs.Greatest.{two_sided, one_sided}
 use Rattle.propagation.specs.Layers.{cell}

@@ -1,14 +1,14 @@
 -- What draft and lay compute over the arcs in force, and what their checks amount to. Assumes nothing.
-use Rattle.std.proofs.Common.{◌≡◌, ℕ, zero, suc, ◌+◌, ◌-◌, ◌*◌, ◌<◌, ◌≤◌, ◌≢◌, List, length, get_or, ℤ, pos, Ok, Err, Result, sym, refl, ap, ◌∙◌, subst, inl, inr, arith, MatchResult}
+use Rattle.std.proofs.Common.{◌≡◌, ℕ, zero, suc, ◌-◌, ◌*◌, ◌<◌, ◌≤◌, List, length, get_or, ℤ, pos, Ok, Err, Result, sym, ap, ◌∙◌, subst, inl, inr, arith, MatchResult}
 use native.Mathlib.Decide.{ℕ_discrete}
 use Rattle.walks.specs.Nodes.{Gaps}
 use Rattle.walks.specs.Places.{Least, GainingCircuit}
 use Rattle.walks.specs.Flows.{layer}
 use Rattle.segments.specs.Shapes.{Shape, Lawful, Point}
-use Rattle.segments.specs.Segments.{segment, row, column}
+use Rattle.segments.specs.Segments.{segment}
 use Rattle.drawings.specs.Arcs.{Arcs, Arc, BetweenNames, Circle, Contradictory, NoneOpen}
-use Rattle.drawings.specs.Drawings.{Draws, Obeys, total}
-use Rattle.drawings.specs.Flows.{OnArcs, Balanced, FlowOver, GreatestAlong, Flow, Flows, Greatest, Coordinates, drawn, Draft, Lay}
+use Rattle.drawings.specs.Drawings.{Draws, Obeys}
+use Rattle.drawings.specs.Flows.{OnArcs, Balanced, FlowOver, GreatestAlong, Flows, Coordinates, drawn, Draft, Lay}
 use Rattle.drawings.specs.Graphs.{graph, cells}
 use Rattle.drawings.proofs.Coordinates.{layers}
 use Rattle.drawings.proofs.Leasts.{least_draft, least_lay, least_greatest, circuit_not_greatest}
@@ -21,7 +21,7 @@ use Rattle.propagation.specs.declared.arc_table.ArcTable.{ArcTable}
 use Rattle.constraints.proofs.Agreeing.{least_agree}
 use Rattle.shape.specs.Sources.{of_copy}
 use Rattle.logs.specs.Lines.{Line, cell_of, flow_of}
-use Rattle.logs.specs.Refusing.{PointsFit, CellsFit, MemoryFits, NoneOff, FirstOff, LowestUnbalanced, Off, RefusesLay, off_arcs, out_of_balance}
+use Rattle.logs.specs.Refusing.{PointsFit, CellsFit, MemoryFits, NoneOff, Off, RefusesLay, off_arcs, out_of_balance}
 use Rattle.logs.specs.Answers.{HandsOut}
 use Rattle.logs.specs.declared.refusal.Refusal.{Refusal}
 use Rattle.logs.specs.declared.spot.Spot.{Spot}

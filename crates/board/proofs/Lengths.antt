@@ -1,17 +1,15 @@
 -- The sum of the wires' spans is the total of the drawing. Assumes nothing.
-use Rattle.std.proofs.Common.{◌≡◌, ℕ, zero, suc, ◌+◌, ◌-◌, ◌<◌, ◌≤◌, ◌≢◌, List, length, get_or, ℤ, pos, ◌+ℤ◌, ◌-ℤ◌, ◌<ℤ◌, Some, sym, refl, ap, ◌∙◌, subst, ap₂, add-one, arith}
+use Rattle.std.proofs.Common.{◌≡◌, ℕ, suc, ◌+◌, ◌-◌, ◌≤◌, List, ℤ, pos, ◌+ℤ◌, ◌-ℤ◌, ◌<ℤ◌, Some, sym, refl, ap, ◌∙◌, subst, add-one, arith}
 use native.Mathlib.Decide.{ℕ_discrete}
 use borrow.Author.Differences.{ints}
-use Rattle.walks.specs.Sums.{sum, sumZ}
 use Rattle.walks.proofs.Folds.{fold_more, eqb_yes, eqb_no, pos_sum, sumZ_same, sumZ_both}
 use Rattle.segments.specs.Shapes.{Shape, Lawful, Point}
 use Rattle.segments.specs.Segments.{segment}
 use Rattle.shape.specs.Tables.{Told}
-use Rattle.drawings.specs.Drawings.{Draws, place, wire_length, length_along, total}
+use Rattle.drawings.specs.Drawings.{Draws, wire_length, total}
 use Rattle.drawings.specs.Flows.{Coordinates, drawn}
-use Rattle.logs.specs.Answers.{nowhere}
 use Rattle.logs.specs.declared.spot.Spot.{Spot}
-use Rattle.board.specs.Measuring.{along, spot_along, wire_span, span_sum}
+use Rattle.board.specs.Measuring.{spot_along, wire_span, span_sum}
 
 -- a neighbour that is told is a point
 pub told_point : (s : Shape) → Lawful s → (d v w : ℕ) → Told (s.next d v) (Some w) → Point s w

@@ -1,5 +1,5 @@
 -- A fresh board stands for the empty log. Assumes nothing.
-use Rattle.std.proofs.Common.{◌≡◌, ℕ, zero, suc, ◌<◌, ◌≤◌, Bool, true, false, cond, ◌&&◌, T, ◌⊎◌, ◌↔◌, [], Decides, sym, refl, ap, ◌∙◌, subst, inl, inr, arith}
+use Rattle.std.proofs.Common.{◌≡◌, ℕ, zero, suc, Bool, true, false, cond, T, ◌⊎◌, ◌↔◌, [], Decides, sym, refl, subst, inl, inr, arith}
 use Rattle.std.proofs.lemmas.Bool.{lt-leb}
 use Rattle.segments.specs.Shapes.{Shape}
 use Rattle.segments.specs.Segments.{ShapeArc}
@@ -14,8 +14,7 @@ use Rattle.path_table.specs.Joined.{joined}
 use Rattle.path_table.specs.Tracks.{Tracks, OfShape}
 use Rattle.path_table.specs.declared.direction_arcs.DirectionArcs.{DirectionArcs}
 use Rattle.logs.specs.Force.{OneStepEach}
-use Rattle.board.specs.Boards.{arcs_of, held, gap_of, Stands}
-use Rattle.board.specs.declared.board.Board.{Board}
+use Rattle.board.specs.Boards.{arcs_of, gap_of, Stands}
 use Rattle.board.proofs.Standing.{is_true, true_is, not_true}
 
 -- a path along the arcs in force leads back to its beginning

@@ -1,10 +1,10 @@
 -- An arc more or less: the board stands for the longer log. Assumes nothing.
-use Rattle.std.proofs.Common.{◌≡◌, ℕ, zero, suc, ◌+◌, ◌-◌, ◌<◌, ◌≤◌, Bool, true, false, cond, ◌&&◌, eqb, leb, ◌⊎◌, ◌↔◌, List, ◌∷◌, Decides, sym, refl, ap, ◌∙◌, subst, inl, inr, arith}
-use native.Mathlib.Decide.{ℕ_discrete, dec_le}
-use Rattle.std.proofs.lemmas.Bool.{le-leb, lt-leb}
+use Rattle.std.proofs.Common.{◌≡◌, ℕ, zero, suc, ◌-◌, ◌<◌, ◌≤◌, Bool, cond, ◌⊎◌, List, ◌∷◌, Decides, sym, refl, ap, ◌∙◌, subst, inl, inr, arith}
+use native.Mathlib.Decide.{dec_le}
+use Rattle.std.proofs.lemmas.Bool.{lt-leb}
 use Rattle.segments.specs.Shapes.{Shape, Within}
 use Rattle.segments.specs.Segments.{ShapeArc}
-use Rattle.drawings.specs.Arcs.{Arcs, Arc, Contradictory}
+use Rattle.drawings.specs.Arcs.{Arc, Contradictory}
 use Rattle.shape.specs.Sources.{of_copy}
 use Rattle.segment_table.specs.Records.{Recorded}
 use Rattle.path_table.specs.Joined.{joined}
@@ -13,7 +13,7 @@ use Rattle.path_table.specs.declared.direction_arcs.DirectionArcs.{DirectionArcs
 use Rattle.logs.specs.Lines.{Line, add, strike}
 use Rattle.logs.specs.Force.{InForce, OneStepEach, SameArc, AcceptsAdd, AcceptsStrike}
 use Rattle.logs.proofs.Stepping.{add_steps, strike_steps, add_refused_steps, strike_refused_steps}
-use Rattle.board.specs.Boards.{arcs_of, held, gap_of, Stands}
+use Rattle.board.specs.Boards.{arcs_of, gap_of, Stands}
 use Rattle.board.specs.Changing.{Changed}
 use Rattle.board.specs.declared.board.Board.{Board}
 use Rattle.board.proofs.Standing.{held_joined}

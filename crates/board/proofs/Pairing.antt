@@ -1,10 +1,10 @@
 -- How a row and a column lie, by what a board that stands holds; the lowest pair that is open. Assumes nothing.
-use Rattle.std.proofs.Common.{◌≡◌, ℕ, zero, suc, ◌+◌, ◌-◌, ◌<◌, ◌≤◌, Bool, true, false, List, ◌∷◌, Ok, Err, Decides, Result, sym, refl, ap, ◌∙◌, subst, inl, inr, arith}
+use Rattle.std.proofs.Common.{◌≡◌, ℕ, zero, suc, ◌+◌, ◌-◌, ◌<◌, ◌≤◌, true, false, List, Ok, Err, Decides, Result, sym, refl, ap, ◌∙◌, subst, inl, inr, arith}
 use Rattle.std.proofs.lemmas.Bool.{cases_lt}
 use Rattle.segments.specs.Shapes.{Shape, Within, Point}
 use Rattle.segments.specs.Segments.{last, segment}
 use Rattle.segments.proofs.Lines.{last_point}
-use Rattle.drawings.specs.Arcs.{Arcs, Arc, Path, Way, Open, NoneOpen}
+use Rattle.drawings.specs.Arcs.{Arcs, Arc, Way, Open, NoneOpen}
 use Rattle.segment_table.specs.Records.{name_in, record_in}
 use Rattle.segment_table.specs.declared.table.Segment.{Segment}
 use Rattle.logs.specs.Lines.{Line, apart}
@@ -13,7 +13,7 @@ use Rattle.logs.specs.Answers.{Answers, paired, Pairs}
 use Rattle.logs.specs.declared.pairing.Pairing.{Pairing}
 use Rattle.logs.specs.declared.pairing.Pairing.TheVariants.{Touch as Touching, Apart as KeptApart, Open as LeftOpen}
 use Rattle.logs.specs.declared.refusal.Refusal.{Refusal}
-use Rattle.board.specs.Boards.{gap_of, Stands}
+use Rattle.board.specs.Boards.{Stands}
 use Rattle.board.specs.Outcomes.{of_pair}
 use Rattle.board.specs.declared.board.Board.{Board}
 use Rattle.board.proofs.Standing.{shape_lawful}

@@ -1,5 +1,5 @@
 -- Records written one by one, and the coordinates that they then hold. Assumes nothing.
-use Rattle.std.proofs.Common.{◌≡◌, ℕ, zero, suc, ◌+◌, ◌-◌, ◌<◌, ◌≤◌, Bool, true, false, cond, ◌&&◌, eqb, leb, ◌≢◌, List, length, get_or, set, sym, refl, ap, ◌∙◌, subst, inl, inr, arith, get_or-set_other, get_or-set_same, below_more}
+use Rattle.std.proofs.Common.{◌≡◌, ℕ, zero, suc, ◌+◌, ◌-◌, ◌<◌, ◌≤◌, ◌≢◌, List, length, get_or, set, sym, ap, ◌∙◌, subst, arith, get_or-set_other, get_or-set_same, below_more}
 use Rattle.std.proofs.lemmas.Bool.{le-leb}
 use Rattle.segments.specs.Shapes.{Shape, Lawful, Point}
 use Rattle.segments.specs.Segments.{segment}
@@ -8,7 +8,7 @@ use Rattle.segment_table.specs.Records.{Recorded, name_in}
 use Rattle.segment_table.specs.declared.table.SegmentTable.{SegmentTable}
 use Rattle.logs.specs.Answers.{nowhere}
 use Rattle.logs.specs.declared.spot.Spot.{Spot}
-use Rattle.board.specs.Measuring.{along, spot_along}
+use Rattle.board.specs.Measuring.{spot_along}
 use Rattle.board.specs.Placing.{coordinates, placed_at}
 
 -- one record more

@@ -1,25 +1,21 @@
 -- What a board that stands for a log knows of the arcs in force. Assumes nothing.
-use Rattle.std.proofs.Common.{◌≡◌, ℕ, zero, suc, ◌+◌, ◌-◌, ◌<◌, ◌≤◌, Bool, true, false, cond, ◌&&◌, T, eqb, leb, ◌⊎◌, ◌↔◌, List, ◌∷◌, ℤ, pos, is_some, Some, None, Decides, Option, sym, refl, ap, ◌∙◌, subst, inl, inr, arith}
+use Rattle.std.proofs.Common.{◌≡◌, ℕ, suc, ◌+◌, ◌<◌, ◌≤◌, Bool, true, false, cond, T, List, pos, is_some, Decides, sym, refl, ap, ◌∙◌, subst, arith}
 use mathlib.Core.Path.{fun_ext}
 use native.Mathlib.Decide.{ℕ_discrete, dec_le}
 use Rattle.std.proofs.lemmas.Bool.{le-leb}
 use Rattle.std.specs.Bool.{then_some}
-use Rattle.walks.specs.Nodes.{Gaps}
 use Rattle.segments.specs.Shapes.{Shape, Lawful}
 use Rattle.segments.specs.Segments.{segment, Named, ShapeArc}
-use Rattle.drawings.specs.Arcs.{Arcs, Arc, Path, BetweenNames, Circle, Contradictory}
+use Rattle.drawings.specs.Arcs.{Arc, Path, BetweenNames, Circle, Contradictory}
 use Rattle.drawings.specs.Graphs.{as_gap, graph}
 use Rattle.drawings.proofs.Climbing.{path_map}
 use Rattle.drawings.proofs.Deciding.{dec_and, dec_by, point?}
 use Rattle.propagation.specs.Tables.{arc_gaps}
-use Rattle.propagation.specs.declared.arc_table.ArcTable.{ArcTable}
-use Rattle.shape.specs.Sources.{of_copy}
 use Rattle.shape.specs.Keeping.{neighbours_lawful}
 use Rattle.path_table.specs.Joined.{joined}
 use Rattle.path_table.specs.Tracks.{Tracks}
 use Rattle.path_table.specs.declared.direction_arcs.DirectionArcs.{DirectionArcs}
 use Rattle.logs.specs.Lines.{Line}
-use Rattle.logs.specs.Force.{InForce, OneStepEach}
 use Rattle.logs.proofs.Stepping.{gap_named, gap_no_circle}
 use Rattle.board.specs.Boards.{arcs_of, held, gap_of, Stands}
 use Rattle.board.specs.declared.board.Board.{Board}

@@ -1,5 +1,5 @@
 -- Cells above 0 off the arcs of one direction, in one memory of n × n cells. Assumes nothing.
-use Rattle.std.specs.Prelude.{◌≡◌, ℕ, ◌<◌, ◌≤◌, true, ◌≢◌, List, Some, None, Option}
+use Rattle.std.specs.Prelude.{ℕ, ◌<◌, ◌≤◌, true, ◌≢◌, List, Some, None, Option}
 use Rattle.segments.specs.Shapes.{Within}
 use Rattle.shape.specs.declared.ends.Arc.{Arc}
 use Rattle.path_table.specs.Joined.{joined}

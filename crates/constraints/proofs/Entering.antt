@@ -1,11 +1,10 @@
 -- A table of arcs that is filled wire by wire. Assumes nothing.
-use Rattle.std.proofs.Common.{◌≡◌, ℕ, suc, ◌+◌, ◌-◌, ◌<◌, ◌≤◌, ◌≢◌, ℤ, pos, Some, None, Option, sym, refl, ap, ◌∙◌, subst, inl, inr, arith}
+use Rattle.std.proofs.Common.{◌≡◌, ℕ, ◌+◌, ◌-◌, ◌<◌, ◌≢◌, ℤ, pos, Some, None, Option, sym, refl, ap, ◌∙◌, subst, inl, inr, arith}
 use native.Mathlib.Decide.{ℕ_discrete}
 use Rattle.std.proofs.lemmas.Bool.{cases_lt}
 use Rattle.walks.specs.Nodes.{Gaps}
-use Rattle.segments.specs.Shapes.{Shape, Lawful, Point}
+use Rattle.segments.specs.Shapes.{Shape}
 use Rattle.segments.specs.Segments.{segment, Named, Wire, ShapeArc}
-use Rattle.segments.proofs.Chains.{segment_named}
 use Rattle.constraints.specs.Own.{OwnGaps, Entered}
 
 module _ (s : Shape) (dir : ℕ) where

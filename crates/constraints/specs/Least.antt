@@ -1,5 +1,5 @@
 -- The least coordinates over a shape's own arcs. Assumes nothing.
-use Rattle.std.specs.Prelude.{ℕ, List, ℤ}
+use Rattle.std.specs.Prelude.{ℕ, ℤ}
 use Rattle.walks.specs.Nodes.{Gaps}
 use Rattle.walks.specs.Places.{Least, GainingCircuit}
 use Rattle.segments.specs.Shapes.{Shape}

@@ -1,5 +1,5 @@
 -- The constraint graphs of a shape: one for each direction, with the shape's own arcs. Assumes nothing.
-use Rattle.std.specs.Prelude.{◌≡◌, ℕ, ◌+◌, ◌-◌, ◌<◌, ◌≢◌, ℤ, pos, Some, None}
+use Rattle.std.specs.Prelude.{◌≡◌, ℕ, ◌+◌, ◌-◌, ◌<◌, ◌≢◌, pos, Some, None}
 use Rattle.walks.specs.Nodes.{Gaps}
 use Rattle.segments.specs.Shapes.{Shape}
 use Rattle.segments.specs.Segments.{segment, Wire, ShapeArc}

@@ -1,5 +1,5 @@
 -- Coordinates that are least over the nodes of each direction are draft's, or lay's over the flow layer. Assumes nothing.
-use Rattle.std.proofs.Common.{◌≡◌, ℕ, suc, ◌+◌, ◌-◌, ◌<◌, ◌≤◌, ℤ, pos, ◌≤ℤ◌, arith}
+use Rattle.std.proofs.Common.{ℕ, suc, ◌-◌, ◌<◌, ◌≤◌, ℤ, pos, ◌≤ℤ◌, arith}
 use borrow.Author.Differences.{ints}
 use Rattle.walks.specs.Nodes.{Gaps}
 use Rattle.walks.specs.Places.{Keeps, Least as NodeLeast, GainingCircuit}

@@ -1,5 +1,5 @@
 -- Answers by the rules keep the whole promise. Assumes nothing.
-use Rattle.std.proofs.Common.{◌≡◌, ℕ, ◌*◌, ◌<◌, Bool, List, length, Decides, refl, arith}
+use Rattle.std.proofs.Common.{◌≡◌, ℕ, ◌*◌, ◌<◌, Bool, List, length, Decides, refl}
 use Rattle.segments.specs.Shapes.{Shape, Lawful}
 use Rattle.segments.specs.Segments.{Named}
 use Rattle.drawings.specs.Arcs.{Arcs, Arc}

@@ -3,7 +3,7 @@ use Rattle.std.specs.Prelude.{◌≡◌, ℕ, ◌*◌, ◌<◌, ◌≤◌, ◌�
 use Rattle.segments.specs.Shapes.{Shape, Point}
 use Rattle.segments.specs.Segments.{Named, ShapeArc}
 use Rattle.drawings.specs.Arcs.{Arcs, Arc, IsOrReaches, Contradictory, Open, NoneOpen}
-use Rattle.drawings.specs.Flows.{Flow, BalancedAt, Balanced, OnArcs, Flows, GreatestAlong, Greatest}
+use Rattle.drawings.specs.Flows.{Flow, BalancedAt, Balanced, Flows, GreatestAlong}
 use Rattle.logs.specs.Lines.{flow_of}
 use Rattle.logs.specs.declared.refusal.Refusal.{Refusal}
 use Rattle.logs.specs.declared.refusal.Refusal.TheVariants.{NoDirection, NoSegment, Contradictory as ContradictoryShape, ClosesCircle, NotInForce, GivenByShape, WrongPoints, WrongCells, OpenPair, FlowOffArcs, OutOfBalance, NotGreatest}

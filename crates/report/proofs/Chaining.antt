@@ -1,5 +1,5 @@
 -- A chain written point by point. Assumes nothing.
-use Rattle.std.proofs.Common.{◌≡◌, ℕ, ◌≤◌, List, [], ◌∷◌, ◌++◌, codes, decimal, sym, refl, ap, ◌∙◌, append_assoc, append-nil, arith}
+use Rattle.std.proofs.Common.{◌≡◌, ℕ, ◌≤◌, List, ◌∷◌, ◌++◌, codes, decimal, sym, ap, ◌∙◌, append_assoc, append-nil, arith}
 use Rattle.segments.specs.Shapes.{Shape, Lawful, Point}
 use Rattle.segments.specs.Segments.{chain}
 use Rattle.segments.proofs.Chains.{chain_next, chain_here}

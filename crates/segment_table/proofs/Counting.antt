@@ -1,11 +1,11 @@
 -- Counting the ends of wires, wire by wire. Assumes nothing.
-use Rattle.std.proofs.Common.{◌≡◌, ℕ, zero, suc, ◌+◌, ◌-◌, ◌*◌, ◌/◌, ◌<◌, ◌≤◌, Bool, true, false, cond, not, ◌&&◌, eqb, ◌≢◌, get_or, sym, refl, ap, ◌∙◌, subst, inl, inr, add-zero, arith}
+use Rattle.std.proofs.Common.{◌≡◌, ℕ, zero, suc, ◌+◌, ◌-◌, ◌*◌, ◌≤◌, Bool, true, false, cond, not, ◌&&◌, eqb, ◌≢◌, get_or, sym, refl, ap, ◌∙◌, inl, inr, add-zero, arith}
 use Rattle.std.proofs.lemmas.Bool.{cases_eq, eq-eqb, ne_eqb}
 use Rattle.std.proofs.lemmas.Bool.Decides.{nat_tests}
 use Rattle.segments.specs.Shapes.{Shape, Within, Point}
 use Rattle.segments.specs.Segments.{segment, Wire}
 use Rattle.segment_table.specs.declared.table.SegmentTable.{SegmentTable}
-use Rattle.segment_table.specs.Records.{place, name_in, record_in, ends_among, taken, Recorded, Counted}
+use Rattle.segment_table.specs.Records.{place, record_in, ends_among, taken, Recorded, Counted}
 
 one_at_most : (b : Bool) → cond b 1 0 ≤ 1
 one_at_most true = omega arith

@@ -1,10 +1,10 @@
 -- A row and a column that touch, by the names in a table. Assumes nothing.
-use Rattle.std.proofs.Common.{◌≡◌, ℕ, ◌≤◌, true, false, Decides, sym, refl, ◌∙◌, arith}
+use Rattle.std.proofs.Common.{ℕ, true, false, Decides, sym, refl, ◌∙◌, arith}
 use Rattle.std.proofs.lemmas.Bool.{false≢true}
 use Rattle.segments.specs.Shapes.{Shape, Within, Point}
 use Rattle.drawings.specs.Arcs.{Touch}
 use Rattle.segment_table.specs.declared.table.SegmentTable.{SegmentTable}
-use Rattle.segment_table.specs.Records.{name_in, Recorded, Crossing}
+use Rattle.segment_table.specs.Records.{Recorded, Crossing}
 
 module _ (t : SegmentTable) (row column : ℕ) (s : Shape) (R : Recorded s t) where
   pub touch_yes : (v : ℕ) → Within t.points v → Crossing t row column v → Decides true (Touch s row column)

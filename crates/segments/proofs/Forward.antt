@@ -1,6 +1,6 @@
 -- What the answers to the right and above settle: the laws, and the whole shape. Assumes nothing.
 use Rattle.std.proofs.Common.{◌≡◌, ℕ, zero, suc, ◌+◌, ◌-◌, ◌<◌, ◌≤◌, ◌≢◌, ◌⊎◌, ◌↔◌, sym, refl, ap, ◌∙◌, subst, inl, inr, arith}
-use native.Mathlib.Decide.{ℕ_discrete, dec_le}
+use native.Mathlib.Decide.{ℕ_discrete}
 use Rattle.std.proofs.lemmas.Bool.{cases_lt}
 use Rattle.segments.specs.Shapes.{Shape, Lawful, Point, Same, steps}
 use Rattle.segments.proofs.Chains.{steps_first, steps_add, steps_on, steps_stay_none, not_none, distinct_chain_short}

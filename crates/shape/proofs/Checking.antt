@@ -1,8 +1,7 @@
 -- Going through the points in order, to name the lowest at fault. Assumes nothing.
 use Rattle.std.proofs.Common.{◌≡◌, ℕ, ◌+◌, ◌<◌, ◌≤◌, Bool, Decides, subst, inl, inr, arith}
 use Rattle.std.proofs.lemmas.Bool.{cases_lt, cases_eq}
-use Rattle.segments.specs.Shapes.{Within}
-use Rattle.shape.specs.Formats.{Lowest, Nowhere}
+use Rattle.shape.specs.Formats.{Nowhere}
 
 module _ (Fault : ℕ → Type 0) where
   -- one point more is without fault

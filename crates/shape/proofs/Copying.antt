@@ -1,9 +1,9 @@
 -- A table filled with the wires of a lawful shape has that shape. Assumes nothing.
-use Rattle.std.proofs.Common.{◌≡◌, ℕ, zero, suc, ◌+◌, ◌-◌, ◌*◌, ◌<◌, ◌≤◌, ◌≢◌, sym, refl, ap, ◌∙◌, subst, inl, inr, arith}
+use Rattle.std.proofs.Common.{◌≡◌, ℕ, zero, suc, ◌+◌, ◌-◌, ◌*◌, ◌≤◌, ◌≢◌, sym, refl, ap, ◌∙◌, inl, inr, arith}
 use mathlib.Core.Path.{fun_ext}
 use native.Mathlib.Decide.{ℕ_discrete}
 use Rattle.std.proofs.lemmas.Bool.{cases_lt}
-use Rattle.segments.specs.Shapes.{Shape, Lawful, Within, Point, Same, steps}
+use Rattle.segments.specs.Shapes.{Shape, Lawful, Point, Same, steps}
 use Rattle.segments.proofs.Forward.{same_by_forward}
 use Rattle.shape.specs.declared.links.Links.{Links}
 use Rattle.shape.specs.Tables.{cell, of_links, Filled}

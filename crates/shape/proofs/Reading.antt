@@ -1,12 +1,12 @@
 -- What reading a file of either format comes to. Assumes nothing.
-use Rattle.std.proofs.Common.{◌≡◌, ℕ, ◌+◌, ◌-◌, ◌*◌, ◌<◌, ◌≤◌, List, length, get_or, IsErrAnd, Ok, Err, Result, sym, refl, ap, ◌∙◌, subst, inl, inr, arith, length-drop, MatchResult}
+use Rattle.std.proofs.Common.{◌≡◌, ℕ, ◌+◌, ◌-◌, ◌*◌, ◌≤◌, List, length, get_or, IsErrAnd, Ok, Err, Result, sym, ap, ◌∙◌, subst, inl, inr, arith, length-drop, MatchResult}
 use native.Mathlib.Decide.{ℕ_discrete}
 use Rattle.std.proofs.lemmas.Bool.{cases_order}
-use Rattle.segments.specs.Shapes.{Shape, Lawful, Within, Point, Same}
+use Rattle.segments.specs.Shapes.{Shape, Within}
 use Rattle.segments.proofs.Forward.{same_by_forward}
 use Rattle.shape.specs.declared.refusal.Refusal.{Refusal}
 use Rattle.shape.specs.declared.refusal.Refusal.TheVariants.{NotAShape, WrongSize, OutOfRange, Repeated, Endless}
-use Rattle.shape.specs.Formats.{Format, letter, bytes_a_point, points_of, body_of, coordinate, Joins, Nearest, TooHigh, Taken, Unended, Lowest, Nowhere, Fits, Flawless, Flawed, Sound, Refuses, Leads, Tabled, Describes, Defines}
+use Rattle.shape.specs.Formats.{Format, letter, bytes_a_point, points_of, body_of, coordinate, Joins, Nearest, Taken, Lowest, Nowhere, Fits, Flawless, Flawed, Sound, Refuses, Leads, Tabled, Describes, Defines}
 use Rattle.shape.specs.Formats.Format.{shape_record, old_sheet}
 
 lowest_somewhere : (n : ℕ) (Fault : ℕ → Type 0) (v : ℕ) → Lowest n Fault v → ¬ Nowhere n Fault

@@ -1,12 +1,12 @@
 -- Following a chain to see whether it returns. Assumes nothing.
-use Rattle.std.proofs.Common.{◌≡◌, ℕ, suc, ◌+◌, ◌-◌, ◌<◌, ◌≤◌, Bool, true, false, ◌≢◌, Decides, sym, refl, ap, ◌∙◌, subst, inl, inr, add-one, arith, below_more}
+use Rattle.std.proofs.Common.{◌≡◌, ℕ, suc, ◌+◌, ◌-◌, ◌<◌, ◌≤◌, true, false, ◌≢◌, Decides, sym, refl, ap, ◌∙◌, inl, inr, arith, below_more}
 use Rattle.std.proofs.lemmas.Bool.{cases_lt, false≢true}
-use Rattle.segments.specs.Shapes.{Shape, Within, Point, steps}
+use Rattle.segments.specs.Shapes.{Within, steps}
 use Rattle.segments.proofs.Chains.{steps_on, steps_stay_none}
 use Rattle.segments.proofs.Forward.{returns_soon}
 use Rattle.shape.specs.declared.links.Links.{Links}
 use Rattle.shape.specs.Tables.{cell, of_links, Returns}
-use Rattle.shape.proofs.Filling.{next_is, next_side, next_point}
+use Rattle.shape.proofs.Filling.{next_is}
 
 pub decided_no : {P : Type 0} → ¬ P → Decides false P
 decided_no n = (λ e. absurd (false≢true e), λ p. absurd (n p))

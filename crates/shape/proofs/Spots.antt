@@ -1,5 +1,5 @@
 -- The wires of an old sheet, each to the nearest point. Assumes nothing.
-use Rattle.std.proofs.Common.{◌≡◌, ℕ, zero, suc, ◌+◌, ◌-◌, ◌*◌, ◌/◌, ◌%◌, ◌<◌, ◌≤◌, ◌≢◌, ◌⊎◌, List, length, sym, refl, ap, ◌∙◌, subst, inl, inr, arith}
+use Rattle.std.proofs.Common.{◌≡◌, ℕ, zero, suc, ◌+◌, ◌-◌, ◌*◌, ◌/◌, ◌%◌, ◌<◌, ◌≤◌, ◌≢◌, List, sym, refl, ap, ◌∙◌, subst, inl, inr, arith}
 use native.Mathlib.Decide.{ℕ_discrete}
 use Rattle.std.proofs.lemmas.Bool.{cases_lt, cases_order}
 use Rattle.segments.specs.Shapes.{Within, Lawful, steps}
@@ -8,7 +8,7 @@ use Rattle.shape.specs.Tables.{cell, of_links, Filled}
 use Rattle.shape.specs.Formats.{coordinate, Joins, Beyond, Nearest, SharesSpot, Taken, Unended, Leads, Lowest, Nowhere}
 use Rattle.shape.specs.Formats.Format.{old_sheet}
 use Rattle.shape.proofs.Reading.{one_spot, joins?}
-use Rattle.shape.proofs.Filling.{next_is, next_point, filled_leads, filled_lawful}
+use Rattle.shape.proofs.Filling.{next_point, filled_leads, filled_lawful}
 
 module _ (n : ℕ) (body : List ℕ) where
   -- two points with one nearest point have one spot

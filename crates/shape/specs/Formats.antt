@@ -1,5 +1,5 @@
 -- What the bytes of a shape file say, and when a file is refused. Assumes nothing.
-use Rattle.std.specs.Prelude.{◌≡◌, ℕ, suc, ◌+◌, ◌-◌, ◌*◌, ◌<◌, ◌≤◌, true, cond, ◌≢◌, ◌⊎◌, ◌↔◌, List, length, drop, is_ok, is_err, Some, None, Ok, Err, Option, Result, MatchResult, ◌==◌, slice_index}
+use Rattle.std.specs.Prelude.{◌≡◌, ℕ, suc, ◌+◌, ◌-◌, ◌*◌, ◌<◌, ◌≤◌, true, cond, ◌≢◌, ◌⊎◌, ◌↔◌, List, length, drop, is_ok, is_err, Some, None, Err, Option, Result, MatchResult, ◌==◌, slice_index}
 use Rattle.segments.specs.Shapes.{Shape, Lawful, Within, Point, Same, steps}
 use Rattle.shape.specs.declared.refusal.Refusal.{Refusal}
 use Rattle.shape.specs.declared.refusal.Refusal.TheVariants.{NotAShape, WrongSize, OutOfRange, Repeated, Endless}

@@ -1,5 +1,5 @@
 -- The laws that a table of neighbours keeps as its invariant. Assumes nothing.
-use Rattle.std.specs.Prelude.{◌≡◌, ℕ, cond}
+use Rattle.std.specs.Prelude.{◌≡◌, ℕ}
 use Rattle.std.proofs.Math.Logic.{∥∥₁_elim}
 use Rattle.std.proofs.Common.{arith}
 use Rattle.std.proofs.lemmas.Bool.Decides.{nat_tests}

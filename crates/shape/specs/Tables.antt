@@ -1,5 +1,5 @@
 -- The table of neighbours. Assumes nothing.
-use Rattle.std.specs.Prelude.{◌≡◌, ℕ, suc, ◌+◌, ◌-◌, ◌*◌, ◌<◌, ◌≤◌, cond, ◌&&◌, ◌↔◌, List, Some, None, Option, nat_le, slice_index}
+use Rattle.std.specs.Prelude.{◌≡◌, ℕ, suc, ◌+◌, ◌-◌, ◌*◌, ◌<◌, ◌≤◌, cond, ◌&&◌, ◌↔◌, Some, None, Option, nat_le, slice_index}
 use Rattle.segments.specs.Shapes.{Shape, Within, steps}
 use Rattle.shape.specs.declared.links.Links.{Links}
 

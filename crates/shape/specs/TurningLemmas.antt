@@ -1,8 +1,8 @@
 -- A turned shape keeps the laws of the shape below. Assumes nothing.
-use Rattle.std.specs.Prelude.{◌≡◌, ℕ, zero, suc, ◌+◌, ◌-◌, ◌%◌, ◌<◌, ◌≤◌, Bool, true, false, cond, ◌≢◌, ◌⊎◌, ◌↔◌, nat_le, refl}
+use Rattle.std.specs.Prelude.{◌≡◌, ℕ, zero, suc, ◌+◌, ◌-◌, ◌%◌, ◌<◌, ◌≤◌, cond, ◌≢◌, ◌⊎◌, ◌↔◌, nat_le, refl}
 use Rattle.std.proofs.Common.{sym, ap, ◌∙◌, subst, inl, inr, arith}
 use Rattle.std.proofs.lemmas.Bool.{cases_lt, le-leb, lt-leb}
-use Rattle.segments.specs.Shapes.{Shape, Lawful, Within, Point, Same, steps}
+use Rattle.segments.specs.Shapes.{Shape, Lawful, Point, Same, steps}
 use Rattle.shape.specs.Turning.{side_before, turned}
 
 -- the side of the shape below is one, and lies q sides before

@@ -1,4 +1,4 @@
-use Rattle.std.proofs.Common.{◌≤◌, arith}
+use Rattle.std.proofs.Common.{arith}
 use Rattle.segments.proofs.Chains.{ended_after}
 use Rattle.segments.proofs.longest_chain.Goals as goal
 

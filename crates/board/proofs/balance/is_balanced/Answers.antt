@@ -1,8 +1,4 @@
-use Rattle.std.proofs.Common.{◌≡◌, ℕ, ◌+◌, ◌-◌, ◌*◌, ◌<◌, ◌≤◌, true, eqb, Decides, sym, ap, ◌∙◌, subst, arith, rules}
-use Rattle.std.proofs.lemmas.Bool.{eqb-true, eq-eqb}
-use Rattle.segments.specs.Shapes.{Shape, Lawful}
-use Rattle.drawings.specs.Flows.{BalancedAt, near_ends_of, far_ends_of}
-use Rattle.logs.specs.Lines.{cell_of}
+use Rattle.std.proofs.Common.{ℕ, ◌+◌, ◌-◌, ◌*◌, ◌<◌, sym, subst, rules}
 use Rattle.board.proofs.CellSums.{incoming_inside, outgoing_inside, balance_decided}
 use Rattle.board.proofs.balance.is_balanced.Goals as goal
 

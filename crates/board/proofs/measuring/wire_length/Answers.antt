@@ -1,4 +1,4 @@
-use Rattle.std.proofs.Common.{arith, rules}
+use Rattle.std.proofs.Common.{rules}
 use Rattle.board.proofs.Lengths.{told_point}
 use Rattle.board.proofs.measuring.wire_length.Goals as goal
 

@@ -1,6 +1,5 @@
-use Rattle.std.proofs.Common.{◌≡◌, ◌+◌, ◌<◌, length, sym, ap, ◌∙◌, arith, rules}
+use Rattle.std.proofs.Common.{◌≡◌, ◌+◌, arith, rules}
 use Rattle.logs.specs.Answers.{nowhere}
-use Rattle.logs.specs.declared.spot.Spot.{Spot}
 use Rattle.board.specs.Placing.{placed_at}
 use Rattle.board.proofs.Places.{written_more, places_are}
 use Rattle.board.proofs.placing.write_places.Goals as goal

@@ -1,4 +1,4 @@
-use Rattle.std.proofs.Common.{ℕ, ◌-◌, ◌<◌, ◌≤◌, MatchOption}
+use Rattle.std.proofs.Common.{ℕ, ◌-◌, ◌≤◌, MatchOption}
 use Rattle.segments.specs.Shapes.{Within}
 use Rattle.shape.specs.Formats.{Beyond, Nearest}
 use Rattle.shape.proofs.old_sheet.nearest.Given as goal

@@ -1,6 +1,6 @@
 use Rattle.std.proofs.Common.{◌≡◌, ◌*◌, ◌≤◌, length, get_or, drop, sym, ap, ◌∙◌, subst, rules}
 use Rattle.std.proofs.lemmas.List.{take_rest}
-use Rattle.shape.specs.Formats.{Fits, Sound, Defines}
+use Rattle.shape.specs.Formats.{Sound, Defines}
 use Rattle.shape.specs.Formats.Format.{shape_record}
 use Rattle.shape.specs.Tables.{of_links}
 use Rattle.shape.proofs.Reading.{header_fits, body_refused, body_defines, handed_on}

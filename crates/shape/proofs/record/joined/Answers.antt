@@ -1,4 +1,4 @@
-use Rattle.std.proofs.Common.{◌≡◌, ℕ, ◌+◌, ◌-◌, ◌*◌, ◌/◌, ◌%◌, ◌<◌, ◌≤◌, length, get_or, sym, refl, ◌∙◌, subst, arith, rules}
+use Rattle.std.proofs.Common.{◌≡◌, ℕ, ◌+◌, ◌-◌, ◌*◌, ◌/◌, ◌%◌, ◌<◌, length, get_or, sym, refl, ◌∙◌, subst, arith, rules}
 use Rattle.segments.specs.Shapes.{Within}
 use Rattle.shape.specs.Tables.{Filled}
 use Rattle.shape.specs.Formats.{Leads}

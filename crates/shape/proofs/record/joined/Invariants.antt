@@ -1,4 +1,3 @@
-use Rattle.std.proofs.Common.{◌≡◌}
 use Rattle.shape.specs.Formats.{Leads}
 use Rattle.shape.specs.Formats.Format.{shape_record}
 use Rattle.shape.specs.Tables.{Filled}

@@ -1,7 +1,7 @@
-use Rattle.std.proofs.Common.{◌≡◌, ℕ, sym, subst}
+use Rattle.std.proofs.Common.{ℕ, sym, subst}
 use Rattle.shape.specs.Formats.{Flawed, Leads, Lowest, Nowhere}
 use Rattle.shape.specs.Formats.Format.{shape_record}
-use Rattle.shape.specs.Tables.{of_links, Circles}
+use Rattle.shape.specs.Tables.{Circles}
 use Rattle.shape.proofs.Reading.{handed_on}
 use Rattle.shape.proofs.Filling.{filled_leads}
 use Rattle.shape.proofs.Numbers.{first_circle, no_circle_ends, no_circle_lawful}

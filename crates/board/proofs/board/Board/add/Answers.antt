@@ -1,4 +1,4 @@
-use Rattle.std.proofs.Common.{◌≡◌, List, sym, refl, subst, rules}
+use Rattle.std.proofs.Common.{List, sym, refl, subst, rules}
 use Rattle.logs.specs.Lines.{Line, add}
 use Rattle.logs.specs.Force.{AcceptsAdd}
 use Rattle.logs.specs.Refusing.{by_change, closes_circle}

@@ -1,4 +1,4 @@
-use Rattle.std.proofs.Common.{◌≡◌, ◌∷◌, sym, refl, subst, rules}
+use Rattle.std.proofs.Common.{◌∷◌, sym, refl, subst}
 use Rattle.logs.specs.Lines.{arc}
 use Rattle.logs.specs.Answers.{Answers}
 use Rattle.board.specs.Boards.{gap_of}

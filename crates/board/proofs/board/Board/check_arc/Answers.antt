@@ -1,4 +1,4 @@
-use Rattle.std.proofs.Common.{◌≡◌, ◌≤◌, sym, refl, subst, inl, inr, arith, rules}
+use Rattle.std.proofs.Common.{◌≤◌, sym, refl, subst, inl, inr, arith}
 use Rattle.std.proofs.lemmas.Result.{MatchResult-weaker}
 use Rattle.shape.proofs.Reading.{handed_on}
 use Rattle.logs.specs.Refusing.{RefusesArc, no_direction, no_segment}

@@ -1,10 +1,7 @@
-use Rattle.std.proofs.Common.{◌≡◌, ℕ, ◌+◌, ◌<◌, ◌≤◌, true, false, List, sym, refl, ◌∙◌, subst, inl, inr, arith, rules}
-use native.Mathlib.Decide.{ℕ_discrete}
-use Rattle.segments.specs.Shapes.{Shape}
+use Rattle.std.proofs.Common.{refl, rules}
 use Rattle.segments.specs.Segments.{Named}
 use Rattle.drawings.specs.Flows.{BalancedAt}
-use Rattle.logs.specs.Lines.{Line, cell_of}
-use Rattle.board.specs.Boards.{Stands}
+use Rattle.logs.specs.Lines.{cell_of}
 use Rattle.board.proofs.Standing.{not_true, named?, one_more}
 use Rattle.board.proofs.board.Board.check_balance.Goals as goal
 

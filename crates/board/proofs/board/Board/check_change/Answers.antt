@@ -1,4 +1,4 @@
-use Rattle.std.proofs.Common.{◌≡◌, true, arith, rules}
+use Rattle.std.proofs.Common.{◌≡◌, true, rules}
 use Rattle.shape.proofs.Reading.{handed_on}
 use Rattle.logs.specs.Refusing.{by_arc, contradictory}
 use Rattle.board.proofs.board.Board.check_change.Goals as goal

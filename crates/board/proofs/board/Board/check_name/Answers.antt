@@ -1,4 +1,4 @@
-use Rattle.std.proofs.Common.{true, false, refl, arith, rules}
+use Rattle.std.proofs.Common.{rules}
 use Rattle.board.proofs.board.Board.check_name.Goals as goal
 
 pub returns : goal.returns

@@ -1,4 +1,4 @@
-use Rattle.std.proofs.Common.{◌≡◌, ℕ, sym, ap, ◌∙◌, rules}
+use Rattle.std.proofs.Common.{ap, rules}
 use Rattle.segments.specs.Shapes.{Shape}
 use Rattle.logs.specs.Refusing.{contradictory, wrong_points}
 use Rattle.board.proofs.Standing.{not_true}

@@ -1,4 +1,4 @@
-use Rattle.std.proofs.Common.{◌≡◌, ◌∷◌, length, sym, refl, ap, ◌∙◌, subst, arith, rules}
+use Rattle.std.proofs.Common.{◌∷◌, length, sym, refl, subst, arith, rules}
 use Rattle.logs.specs.Lines.{draft}
 use Rattle.logs.specs.Refusing.{RefusesDraft, by_points, open_pair}
 use Rattle.logs.specs.Answers.{Answers}

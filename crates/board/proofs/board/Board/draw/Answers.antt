@@ -1,4 +1,4 @@
-use Rattle.std.proofs.Common.{◌≡◌, ap, ◌∙◌}
+use Rattle.std.proofs.Common.{ap, ◌∙◌}
 use Rattle.segments.specs.Shapes.{Shape}
 use Rattle.board.specs.Placing.{coordinates}
 use Rattle.board.proofs.Laying.{hands_out}

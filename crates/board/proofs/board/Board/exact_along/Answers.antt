@@ -1,4 +1,4 @@
-use Rattle.std.proofs.Common.{◌≡◌, ℕ, List, get_or, pos, refl, ap, ◌∙◌, subst}
+use Rattle.std.proofs.Common.{ℕ, List, get_or, pos, refl, ap, ◌∙◌, subst}
 use Rattle.walks.specs.Nodes.{Gaps}
 use Rattle.walks.specs.Flows.{layer}
 use Rattle.walks.specs.Places.{Least, GainingCircuit}

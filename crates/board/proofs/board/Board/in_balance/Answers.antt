@@ -1,5 +1,4 @@
 use Rattle.std.proofs.Common.{◌≡◌, ℕ, Decides, sym, ap, ◌∙◌, subst, rules}
-use Rattle.segments.specs.Segments.{Named}
 use Rattle.drawings.specs.Flows.{BalancedAt}
 use Rattle.segment_table.specs.declared.table.Segment.{Segment}
 use Rattle.logs.specs.Lines.{cell_of}

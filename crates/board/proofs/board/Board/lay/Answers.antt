@@ -1,11 +1,10 @@
-use Rattle.std.proofs.Common.{◌≡◌, ℕ, ◌*◌, ◌<◌, List, ◌∷◌, length, sym, refl, ap, ◌∙◌, subst, arith, rules}
-use Rattle.segments.specs.Shapes.{Shape}
+use Rattle.std.proofs.Common.{◌∷◌, length, sym, refl, subst, arith, rules}
 use Rattle.drawings.specs.Flows.{GreatestAlong}
 use Rattle.drawings.proofs.Listing.{each_direction}
-use Rattle.logs.specs.Lines.{Line, lay, flow_of}
+use Rattle.logs.specs.Lines.{lay, flow_of}
 use Rattle.logs.specs.Refusing.{RefusesLay, by_points, wrong_cells, open_pair, not_greatest}
 use Rattle.logs.specs.Answers.{Answers}
-use Rattle.board.specs.Boards.{gap_of, Stands}
+use Rattle.board.specs.Boards.{gap_of}
 use Rattle.board.specs.Outcomes.{of_drawing}
 use Rattle.board.specs.Placing.{coordinates}
 use Rattle.board.proofs.Exits.{exit_is}

@@ -1,4 +1,4 @@
-use Rattle.std.proofs.Common.{◌≡◌, get_or, pos, refl, ap, ◌∙◌}
+use Rattle.std.proofs.Common.{get_or, pos, refl, ap, ◌∙◌}
 use Rattle.walks.specs.Places.{Least, GainingCircuit}
 use Rattle.path_table.specs.declared.direction_arcs.DirectionArcs.{DirectionArcs}
 use Rattle.board.proofs.Laying.{along_graph, circuit_circle}

@@ -1,10 +1,10 @@
-use Rattle.std.proofs.Common.{◌≡◌, ℕ, List, sym, refl, subst, rules}
+use Rattle.std.proofs.Common.{List, sym, refl, subst, rules}
 use Rattle.segments.specs.Shapes.{Shape}
 use Rattle.segments.specs.Segments.{ShapeArc}
-use Rattle.drawings.specs.Arcs.{Arcs, Arc}
+use Rattle.drawings.specs.Arcs.{Arc}
 use Rattle.logs.specs.Lines.{Line, strike}
 use Rattle.logs.specs.Force.{AcceptsStrike}
-use Rattle.logs.specs.Refusing.{MayChange, by_change, not_in_force, given_by_shape}
+use Rattle.logs.specs.Refusing.{by_change, not_in_force, given_by_shape}
 use Rattle.logs.specs.Answers.{Answers}
 use Rattle.logs.proofs.Stepping.{strike_never_both}
 use Rattle.board.specs.Boards.{gap_of, Stands}

@@ -1,4 +1,4 @@
-use Rattle.std.proofs.Common.{◌≡◌, ℕ, ◌+◌, ◌-◌, ◌*◌, ◌/◌, ◌%◌, ◌<◌, ◌≤◌, sym, subst, arith, rules}
+use Rattle.std.proofs.Common.{◌≡◌, ◌+◌, ◌-◌, ◌*◌, ◌/◌, ◌%◌, ◌<◌, sym, subst, arith, rules}
 use Rattle.segments.specs.Shapes.{Point}
 use Rattle.segment_table.specs.Records.{Counted}
 use Rattle.segment_table.proofs.Counting.{no_wire, room, counted_skip, counted_wire, counted_all}

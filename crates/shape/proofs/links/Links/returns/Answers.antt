@@ -1,7 +1,7 @@
-use Rattle.std.proofs.Common.{◌≡◌, suc, ◌+◌, ◌≤◌, sym, ap, ◌∙◌, add-one, arith, rules}
+use Rattle.std.proofs.Common.{◌≡◌, suc, sym, ap, ◌∙◌, add-one, rules}
 use Rattle.segments.specs.Shapes.{steps}
 use Rattle.shape.specs.Tables.{of_links}
-use Rattle.shape.proofs.Returning.{decided_no, decided_yes, ended_no_return, one_step_more, long_no_return}
+use Rattle.shape.proofs.Returning.{decided_no, ended_no_return, one_step_more, long_no_return}
 use Rattle.shape.proofs.links.Links.returns.Goals as goal
 
 pub returns-in-None : goal.returns-in-None

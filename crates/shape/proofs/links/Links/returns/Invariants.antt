@@ -1,5 +1,5 @@
 use Rattle.std.proofs.Common.{◌≡◌, ℕ, suc, ◌<◌, ◌≢◌}
-use Rattle.segments.specs.Shapes.{Point, steps}
+use Rattle.segments.specs.Shapes.{steps}
 use Rattle.shape.specs.Tables.{of_links}
 use Rattle.shape.proofs.links.Links.returns.Given as goal
 
