@@ -18,12 +18,7 @@ fn least_places<S: ShapeSource>(source: &S, direction: usize) -> Option<[Place; 
     ensures { MatchOption result (direction ≤ 1 → HasCircle (S.ShapeSource.shape source.now) direction) (λ places. (direction ≤ 1) × ((S.ShapeSource.shape source.now).points ≤ 128) × LeastOver (S.ShapeSource.shape source.now) direction (coordinate places)) }
 {
     let table = own_arcs(source, direction)?;
-    let nodes = table.nodes();
-    let mut places = [Place::NONE; MOST_NODES];
-    match longest_places(&table, &mut places[0..nodes]) {
-        Ok(true) => Some(places),
-        _ => None,
-    }
+    places_over(&table)
 }
 
 fn coordinate_at(places: &[Place], node: usize) -> u16

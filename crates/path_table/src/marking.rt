@@ -11,7 +11,7 @@ use propagation::arc_table::ArcTable;
 use propagation::graph::{ConstraintGraph, MOST_NODES};
 use propagation::label::Label;
 use propagation::reach::Reach;
-use propagation::reached::reached_from;
+use propagation::reaching::reached_from;
 
 fn put(table: &mut ArcTable, from: usize, to: usize, arc: bool)
     ensures { Put table.old table.new from to (then_some arc (pos 1)) }

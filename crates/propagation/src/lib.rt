@@ -9,6 +9,5 @@ pub mod label;
 pub mod longest;
 pub mod place;
 pub mod reach;
-pub mod reached;
 pub mod reaching;
 pub mod refusal;

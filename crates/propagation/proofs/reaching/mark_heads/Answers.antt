@@ -1,7 +1,7 @@
 use Rattle.std.proofs.Common.{◌≡◌, is_some, ap, ◌∙◌, rules}
 use Rattle.propagation.specs.Kinds.{reach_meaning}
 use Rattle.propagation.proofs.Steps.{written_more}
-use Rattle.propagation.proofs.reached.mark_heads.Goals as goal
+use Rattle.propagation.proofs.reaching.mark_heads.Goals as goal
 
 pub loop-node-preserved : goal.loop-node-preserved
 loop-node-preserved g c =

@@ -1,6 +1,6 @@
 use Rattle.std.proofs.Common.{rules}
 use Rattle.propagation.proofs.Leading.{labels_mark_leads}
-use Rattle.propagation.proofs.reached.reached_from.Goals as goal
+use Rattle.propagation.proofs.reaching.reached_from.Goals as goal
 
 pub returns : goal.returns
 returns g c =
