@@ -18,7 +18,7 @@ use Rattle.drawings.proofs.Reaching.{circuit_path}
 use Rattle.propagation.specs.Layers.{cell}
 use Rattle.propagation.specs.Tables.{arc_gaps}
 use Rattle.propagation.specs.declared.arc_table.ArcTable.{ArcTable}
-use Rattle.constraints.proofs.Agreeing.{least_agree}
+use Rattle.propagation.proofs.Pushing.{least_same}
 use Rattle.shape.specs.Sources.{of_copy}
 use Rattle.logs.specs.Lines.{Line, cell_of, flow_of}
 use Rattle.logs.specs.Refusing.{PointsFit, CellsFit, MemoryFits, NoneOff, Off, RefusesLay, off_arcs, out_of_balance}
@@ -27,9 +27,13 @@ use Rattle.logs.specs.declared.refusal.Refusal.{Refusal}
 use Rattle.logs.specs.declared.spot.Spot.{Spot}
 use Rattle.logs.proofs.Stepping.{gap_own}
 use Rattle.board.specs.Boards.{arcs_of, gap_of, Stands}
+use Rattle.board.specs.Cells.{flow_in, Laid as FlowLaid}
+use Rattle.board.specs.declared.board.flows.Flow.{Flow}
+use Rattle.drawings.specs.Flows.{Flow as FlowOf}
 use Rattle.board.specs.Flows.{OffAlong, BalancedOrLowest, FlowRefused}
 use Rattle.board.specs.Measuring.{spot_along, span_sum}
-use Rattle.board.specs.Placing.{coordinates}
+use Rattle.shape.specs.declared.by_direction.ByDirection.{ByDirection}
+use Rattle.board.specs.Placing.{coordinate_in}
 use Rattle.board.specs.declared.board.Board.{Board}
 use Rattle.board.proofs.CellSums.{node_cells}
 use Rattle.board.proofs.Lengths.{sum_is_total}
@@ -37,11 +41,11 @@ use Rattle.board.proofs.Standing.{graph_is, shape_lawful, between_names}
 
 -- ---- coordinates in two tables
 -- those of a direction, over the nodes
-pub least_both : (n : ℕ) (G : ℕ → Gaps) (xs ys : List ℕ) → Least n (G 0) (λ v. pos (get_or xs v 0)) → Least n (G 1) (λ v. pos (get_or ys v 0)) → (dir : ℕ) → dir ≤ 1 → Least n (G dir) (λ i. pos (coordinates xs ys dir (suc i)))
-least_both n G xs ys lx ly =
-    each_direction (λ dir. Least n (G dir) (λ i. pos (coordinates xs ys dir (suc i))))
-    (least_agree n (G 0) (λ v. pos (get_or xs v 0)) _ (λ v h. ap (λ (k : ℕ). pos (get_or xs k 0)) (less_one v)) lx)
-    (least_agree n (G 1) (λ v. pos (get_or ys v 0)) _ (λ v h. ap (λ (k : ℕ). pos (get_or ys k 0)) (less_one v)) ly)
+pub least_both : (n : ℕ) (G : ℕ → Gaps) (pair : ByDirection (List ℕ)) → Least n (G 0) (λ v. pos (get_or pair.across v 0)) → Least n (G 1) (λ v. pos (get_or pair.up v 0)) → (dir : ℕ) → dir ≤ 1 → Least n (G dir) (λ i. pos (coordinate_in pair dir (suc i)))
+least_both n G pair lx ly =
+    each_direction (λ dir. Least n (G dir) (λ i. pos (coordinate_in pair dir (suc i))))
+    (least_same n (G 0) (λ v. pos (get_or pair.across v 0)) _ (λ v h. ap (λ (k : ℕ). pos (get_or pair.across k 0)) (less_one v)) lx)
+    (least_same n (G 1) (λ v. pos (get_or pair.up v 0)) _ (λ v h. ap (λ (k : ℕ). pos (get_or pair.up k 0)) (less_one v)) ly)
   where
     less_one : (i : ℕ) → suc i - 1 ≡ i
     less_one i = omega arith
@@ -91,12 +95,24 @@ module _ (s : Shape) (log : List Line) (b : Board) (stands : Stands s log b) whe
     obeys_draws c obeys = (obeying_is_simple s L (gap_of b) (gap_own s log (gap_of b) stands.force) OpenNone (drawn c) obeys).draws
 
   -- ---- draft
-  pub drafted : (xs ys : List ℕ) → Least s.points (graph (gap_of b) 0) (λ v. pos (get_or xs v 0)) → Least s.points (graph (gap_of b) 1) (λ v. pos (get_or ys v 0)) → Draft s (gap_of b) (coordinates xs ys)
-  drafted xs ys lx ly = least_draft s (gap_of b) between (coordinates xs ys) (least_both s.points (graph (gap_of b)) xs ys lx ly)
+  pub drafted : (pair : ByDirection (List ℕ)) → Least s.points (graph (gap_of b) 0) (λ v. pos (get_or pair.across v 0)) → Least s.points (graph (gap_of b) 1) (λ v. pos (get_or pair.up v 0)) → Draft s (gap_of b) (coordinate_in pair)
+  drafted pair lx ly = least_draft s (gap_of b) between (coordinate_in pair) (least_both s.points (graph (gap_of b)) pair lx ly)
 
   -- ---- the memories of lay
   pub memory_fits : (n k : ℕ) (across up : List ℕ) → PointsFit s n → k ≡ s.points → (length across ≡ k * k) × (length up ≡ k * k) → MemoryFits s n across up
   memory_fits n k across up fit e long = (fit.1, long.0 ∙ ap (λ (i : ℕ). i * i) e, long.1 ∙ ap (λ (i : ℕ). i * i) e)
+
+  -- a flow laid over the board has memories of the right sizes, and says of them what it says of its own
+  pub laid_fits : (n : ℕ) (xs ys : List ℕ) (f : Flow) → FlowLaid b xs ys f → PointsFit s n → MemoryFits s n xs ys
+  laid_fits n xs ys f over fit =
+      let points : f.board.now.segments.points ≡ s.points = ap (λ (t : Board). t.segments.points) over.board ∙ stands.segments.points in
+      memory_fits n f.board.now.segments.points xs ys fit points (sym (ap length over.across) ∙ f.across_fits, sym (ap length over.up) ∙ f.up_fits)
+
+  pub laid_says : (xs ys : List ℕ) (f : Flow) → FlowLaid b xs ys f → (P : Arcs → FlowOf → Type 0) → (Stands s log f.board.now → P (gap_of f.board.now) (flow_in s f)) → P (gap_of b) (flow_of s xs ys)
+  laid_says xs ys f over P says =
+      subst (λ (list : List ℕ). P (gap_of b) (flow_of s xs list)) over.up
+      (subst (λ (list : List ℕ). P (gap_of b) (flow_of s list f.cells.up.now)) over.across
+      (subst (λ (t : Board). P (gap_of t) (flow_in s f)) over.board (says (subst (Stands s log) (sym over.board) stands))))
 
   pub cells_unfit : (k : ℕ) (across up : List ℕ) → k ≡ s.points → ¬ ((length across ≡ k * k) × (length up ≡ k * k)) → ¬ (CellsFit s across × CellsFit s up)
   cells_unfit k across up e n fit = n (fit.0 ∙ sym (ap (λ (i : ℕ). i * i) e), fit.1 ∙ sym (ap (λ (i : ℕ). i * i) e))
@@ -118,9 +134,9 @@ module _ (s : Shape) (log : List Line) (b : Board) (stands : Stands s log b) whe
     flow_checked x y bx (Ok u) by = each_direction (λ dir. FlowOver s (gap_of b) dir (flow_of s across up dir)) (flow_over 0 x bx) (flow_over 1 y by)
     flow_checked x y bx (Err e) o = inr (none_off x y, (1, o.0, o.1, record { segment = o.2; unbalanced = o.3; first_direction = before_up (λ d. Balanced s d (flow_of s across up d)) bx; lowest = o.4 }))
 
-    pub laid : Flows s (gap_of b) (flow_of s across up) → (xs ys : List ℕ) → Least s.points (layer (graph (gap_of b) 0) (cells (cell_of s.points across))) (λ v. pos (get_or xs v 0)) → Least s.points (layer (graph (gap_of b) 1) (cells (cell_of s.points up))) (λ v. pos (get_or ys v 0)) → Lay s (gap_of b) (flow_of s across up) (coordinates xs ys)
-    laid flows xs ys lx ly =
-        least_lay s (gap_of b) between (flow_of s across up) (λ dir h. (flows dir h).on_arcs) (coordinates xs ys) (least_both s.points (layers (gap_of b) (flow_of s across up)) xs ys lx ly)
+    pub laid : Flows s (gap_of b) (flow_of s across up) → (pair : ByDirection (List ℕ)) → Least s.points (layer (graph (gap_of b) 0) (cells (cell_of s.points across))) (λ v. pos (get_or pair.across v 0)) → Least s.points (layer (graph (gap_of b) 1) (cells (cell_of s.points up))) (λ v. pos (get_or pair.up v 0)) → Lay s (gap_of b) (flow_of s across up) (coordinate_in pair)
+    laid flows pair lx ly =
+        least_lay s (gap_of b) between (flow_of s across up) (λ dir h. (flows dir h).on_arcs) (coordinate_in pair) (least_both s.points (layers (gap_of b) (flow_of s across up)) pair lx ly)
 
     pub greatest_along : (dir : ℕ) → dir ≤ 1 → FlowOver s (gap_of b) dir (flow_of s across up dir) → (x : ℕ → ℤ) → Least s.points (layer (graph (gap_of b) dir) (cells (flow_of s across up dir))) x → GreatestAlong s (gap_of b) dir (flow_of s across up dir)
     greatest_along dir h flow x least = least_greatest s L (gap_of b) between dir h (flow_of s across up dir) flow x least.keeps
@@ -129,3 +145,7 @@ module _ (s : Shape) (log : List Line) (b : Board) (stands : Stands s log b) whe
 pub flow_refused : (s : Shape) (gap : Arcs) (n : ℕ) (across up : List ℕ) → ¬ Contradictory s → MemoryFits s n across up → NoneOpen s (Arc gap) → (e : Refusal) → FlowRefused s gap (flow_of s across up) e → RefusesLay s gap n across up e
 flow_refused s gap n across up fine fits none e (inl o) = subst (RefusesLay s gap n across up) (sym o.3) (off_arcs fine fits none o.0 o.1 o.2 o.4)
 flow_refused s gap n across up fine fits none e (inr o) = subst (RefusesLay s gap n across up) (sym o.1.2) (out_of_balance fine fits none o.0 o.1.0 o.1.1 o.1.3)
+
+-- least coordinates with exact steps, over the same cells under another name
+pub least_of : (s : Shape) (gap : Arcs) (dir : ℕ) (held list xs : List ℕ) → held ≡ list → (FlowOver s gap dir (cell_of s.points held) → Least s.points (layer (graph gap dir) (cells (cell_of s.points held))) (λ v. pos (get_or xs v 0))) → FlowOver s gap dir (cell_of s.points list) → Least s.points (layer (graph gap dir) (cells (cell_of s.points list))) (λ v. pos (get_or xs v 0))
+least_of s gap dir held list xs same = subst (λ (l : List ℕ). FlowOver s gap dir (cell_of s.points l) → Least s.points (layer (graph gap dir) (cells (cell_of s.points l))) (λ v. pos (get_or xs v 0))) same

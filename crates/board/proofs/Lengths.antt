@@ -1,27 +1,23 @@
 -- The sum of the wires' spans is the total of the drawing. Assumes nothing.
-use Rattle.std.proofs.Common.{◌≡◌, ℕ, suc, ◌+◌, ◌-◌, ◌≤◌, List, ℤ, pos, ◌+ℤ◌, ◌-ℤ◌, ◌<ℤ◌, Some, sym, refl, ap, ◌∙◌, subst, add-one, arith}
+use Rattle.std.proofs.Common.{◌≡◌, ℕ, suc, ◌+◌, ◌-◌, ◌≤◌, List, ℤ, pos, ◌+ℤ◌, ◌-ℤ◌, ◌<ℤ◌, refl, ap, ◌∙◌, add-one, arith}
+use Rattle.std.proofs.lemmas.Bool.{eq-eqb, ne_eqb}
 use native.Mathlib.Decide.{ℕ_discrete}
 use borrow.Author.Differences.{ints}
-use Rattle.walks.proofs.Folds.{fold_more, eqb_yes, eqb_no, pos_sum, sumZ_same, sumZ_both}
+use Rattle.walks.proofs.Folds.{fold_more, pos_sum, sumZ_same, sumZ_both}
 use Rattle.segments.specs.Shapes.{Shape, Lawful, Point}
 use Rattle.segments.specs.Segments.{segment}
-use Rattle.shape.specs.Tables.{Told}
 use Rattle.drawings.specs.Drawings.{Draws, wire_length, total}
 use Rattle.drawings.specs.Flows.{Coordinates, drawn}
 use Rattle.logs.specs.declared.spot.Spot.{Spot}
 use Rattle.board.specs.Measuring.{spot_along, wire_span, span_sum}
-
--- a neighbour that is told is a point
-pub told_point : (s : Shape) → Lawful s → (d v w : ℕ) → Told (s.next d v) (Some w) → Point s w
-told_point s L d v w t = subst (Point s) (sym t.0) (L.to_points d v (λ e. omega (arith, t.1)))
 
 -- the records have the places of the points under the coordinates c
 module _ (s : Shape) (L : Lawful s) (c : Coordinates) (draws : Draws s (drawn c)) (places : List Spot) (placed : (dir v : ℕ) → dir ≤ 1 → Point s v → spot_along places dir v ≡ c dir (segment s dir v)) where
   pub span_is_length : (dir v : ℕ) → dir ≤ 1 → Point s v → pos (wire_span s places dir v) ≡ wire_length s (drawn c) dir v
   span_is_length dir v h p =
       elim (ℕ_discrete (s.next dir v) 0) [
-        | yes e ↦ rw (eqb_yes (s.next dir v) 0 e) refl
-        | no d ↦ rw (eqb_no (s.next dir v) 0 d) (less _ _ _ _ (placed dir (s.next dir v) h (L.to_points dir v d)) (placed dir v h p) (draws dir v (h, p, d)))
+        | yes e ↦ rw (eq-eqb (s.next dir v) 0 e) refl
+        | no d ↦ rw (ne_eqb (s.next dir v) 0 d) (less _ _ _ _ (placed dir (s.next dir v) h (L.to_points dir v d)) (placed dir v h p) (draws dir v (h, p, d)))
       ]
     where
       less : (x y m n : ℕ) → x ≡ m → y ≡ n → pos n <ℤ pos m → pos (x - y) ≡ pos m -ℤ pos n

@@ -5,5 +5,8 @@ pub mod Standing
 pub mod Exits
 pub mod Moving
 pub mod Making
+pub mod Asking
+pub mod Adding
+pub mod Offs
 pub mod Pairing
 pub mod Laying

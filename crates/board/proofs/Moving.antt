@@ -8,7 +8,7 @@ use Rattle.drawings.specs.Arcs.{Arc, Contradictory}
 use Rattle.shape.specs.Sources.{of_copy}
 use Rattle.segment_table.specs.Records.{Recorded}
 use Rattle.path_table.specs.Joined.{joined}
-use Rattle.path_table.specs.Tracks.{Tracks, Added, Struck}
+use Rattle.path_table.specs.Tracks.{Added, Struck}
 use Rattle.path_table.specs.declared.direction_arcs.DirectionArcs.{DirectionArcs}
 use Rattle.logs.specs.Lines.{Line, add, strike}
 use Rattle.logs.specs.Force.{InForce, OneStepEach, SameArc, AcceptsAdd, AcceptsStrike}
@@ -22,7 +22,6 @@ use Rattle.board.proofs.Standing.{held_joined}
 record Moved (x y : DirectionArcs) (a b : ℕ) : Type 0 where
   own : y.own ≡ x.own
   nodes : y.force.nodes ≡ x.force.nodes
-  tracks : Tracks x → Tracks y
   others : (u v : ℕ) → ((u ≡ a) × (v ≡ b) → ⊥) → joined y.force u v ≡ joined x.force u v
 
 -- of two directions each is this one or the other
@@ -68,7 +67,6 @@ module _ (b b' : Board) (dir a c : ℕ) (hd : dir ≤ 1) (change : Changed b b' 
             each (λ d x y. Decides (joined y.own u v) (ShapeArc s d u v)) (subst (λ t. Decides (joined t u v) (ShapeArc s dir u v)) (sym change.arcs.own) (stands.own dir u v hd))
             (stands.own (1 - dir) u v (omega arith)) d h;
         force = force;
-        tracks = each (λ d x y. Tracks y) (change.arcs.tracks (stands.tracks dir hd)) (stands.tracks (1 - dir) (omega arith));
       }
 
 -- ---- an arc comes into force
@@ -76,18 +74,12 @@ changed_by : (b b' : Board) (dir : ℕ) (R S : DirectionArcs → DirectionArcs �
 changed_by b b' dir R S f c =
     record { arcs = f _ _ c.arcs; others_stay = c.others_stay; shape_stays = c.shape_stays; segments_stay = c.segments_stay; verdict_stays = c.verdict_stays }
 
--- the arcs up change
-pub up_changed : (b : Board) (arcs : DirectionArcs) (dir : ℕ) (R : DirectionArcs → DirectionArcs → Type 0) → dir ≤ 1 → ¬ (dir ≡ 0) → R b.up arcs → Changed b (record { shape = b.shape; segments = b.segments; across = b.across; up = arcs; contradictory = b.contradictory }) dir R
-up_changed b arcs zero R h n r = absurd (n refl)
-up_changed b arcs (suc zero) R h n r = record { arcs = r; others_stay = refl; shape_stays = refl; segments_stay = refl; verdict_stays = refl }
-up_changed b arcs (suc (suc dir)) R h n r = absurd (omega arith)
-
 module _ (s : Shape) (log : List Line) (b b' : Board) (dir u v : ℕ) (stands : Stands s log b) where
   pub added_stands : AcceptsAdd s (Arc (gap_of b)) dir u v → Changed b b' dir (λ x y. Added x y u v) → Stands s (add dir u v ∷ log) b'
   added_stands accepts change =
       let h = accepts.from.0 in
       let nodes = stands.nodes dir h in
-      let moved = changed_by b b' dir (λ x y. Added x y u v) (λ x y. Moved x y u v) (λ x y r. record { own = r.own_stays; nodes = r.nodes_stay.0; tracks = r.paths_follow; others = r.others_stay }) change in
+      let moved = changed_by b b' dir (λ x y. Added x y u v) (λ x y. Moved x y u v) (λ x y r. record { own = r.own_stays; nodes = r.nodes_stay.0; others = r.others_stay }) change in
       let there : gap_of b' dir u v ≡ 1 =
       ap (λ (t : Bool). cond t 1 0) (held_joined b' dir u v h ∙ change.arcs.arc_is_there (subst (λ (n : ℕ). Within n u) (sym nodes) accepts.from.1) (subst (λ (n : ℕ). Within n v) (sym nodes) accepts.to.1)) in
       moved_stands b b' dir u v h moved s log (add dir u v ∷ log) stands
@@ -96,7 +88,7 @@ module _ (s : Shape) (log : List Line) (b b' : Board) (dir u v : ℕ) (stands : 
   pub struck_stands : AcceptsStrike s (Arc (gap_of b)) dir u v → Changed b b' dir (λ x y. Struck x y u v) → Stands s (strike dir u v ∷ log) b'
   struck_stands accepts change =
       let h = accepts.from.0 in
-      let moved = changed_by b b' dir (λ x y. Struck x y u v) (λ x y. Moved x y u v) (λ x y r. record { own = r.own_stays; nodes = r.nodes_stay.0; tracks = r.paths_follow; others = r.others_stay }) change in
+      let moved = changed_by b b' dir (λ x y. Struck x y u v) (λ x y. Moved x y u v) (λ x y r. record { own = r.own_stays; nodes = r.nodes_stay.0; others = r.others_stay }) change in
       let gone : gap_of b' dir u v ≡ 0 = ap (λ (t : Bool). cond t 1 0) (held_joined b' dir u v h ∙ change.arcs.arc_is_gone) in
       moved_stands b b' dir u v h moved s log (strike dir u v ∷ log) stands
       (strike_steps s log (gap_of b) stands.force dir u v accepts (gap_of b') gone (others_stay b b' dir u v h moved))
@@ -105,7 +97,7 @@ module _ (s : Shape) (log : List Line) (b b' : Board) (dir u v : ℕ) (stands : 
 -- the board stands as it is, for any log that leaves the arcs in force
 pub same_stands : (s : Shape) (log after : List Line) (b : Board) → Stands s log b → OneStepEach (InForce s after) (gap_of b) → Stands s after b
 same_stands s log after b stands force =
-    record { shape = stands.shape; segments = stands.segments; contradictory = stands.contradictory; nodes = stands.nodes; own = stands.own; force = force; tracks = stands.tracks }
+    record { shape = stands.shape; segments = stands.segments; contradictory = stands.contradictory; nodes = stands.nodes; own = stands.own; force = force }
 
 module _ (s : Shape) (log : List Line) (b : Board) (dir u v : ℕ) (stands : Stands s log b) where
   pub refused_add_stands : ¬ AcceptsAdd s (Arc (gap_of b)) dir u v → Stands s (add dir u v ∷ log) b

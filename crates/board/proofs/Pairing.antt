@@ -19,26 +19,26 @@ use Rattle.board.specs.declared.board.Board.{Board}
 use Rattle.board.proofs.Standing.{shape_lawful}
 
 -- ---- the two ends of a line along the direction
-module _ (s : Shape) (log : List Line) (b : Board) (stands : Stands s log b) (dir : ℕ) (low : dir ≤ 1) where
-  module _ (line : ℕ) (p : Point s line) where
-    pub begins_at : (first : ℕ) → first ≡ name_in b.segments dir line → first ≡ segment s dir line
-    begins_at first e = e ∙ stands.segments.names dir line low p
+module _ (s : Shape) (log : List Line) (b : Board) (stands : Stands s log b) (dir line : ℕ) (low : dir ≤ 1) (p : Point s line) where
+  -- d is the direction, and m the other, by their numbers
+  module _ (d : ℕ) (this : d ≡ dir) where
+    pub begins_at : (first : ℕ) → first ≡ name_in b.segments d line → first ≡ segment s dir line
+    begins_at first e = e ∙ ap (λ (k : ℕ). name_in b.segments k line) this ∙ stands.segments.names dir line low p
 
-    -- m is the direction, said otherwise
-    module _ (m : ℕ) (same : m ≡ dir) (held : Segment) (e : held ≡ record_in b.segments (1 - m) line) where
-      pub ends_at : held.end ≡ last s dir line
+    module _ (m : ℕ) (other : m ≡ 1 - dir) (held : Segment) (e : held ≡ record_in b.segments m line) where
+      ends_at : held.end ≡ last s dir line
       ends_at =
-          let back : 1 - (1 - m) ≡ dir = omega arith in
-          ap (λ (t : Segment). t.end) e ∙ stands.segments.ends (1 - m) line (omega arith) p ∙ ap (λ (d : ℕ). last s d line) back
+          let back : 1 - m ≡ dir = omega arith in
+          ap (λ (t : Segment). t.end) e ∙ stands.segments.ends m line (omega arith) p ∙ ap (λ (k : ℕ). last s k line) back
 
-      pub end_point : Point s held.end
+      end_point : Point s held.end
       end_point = subst (Point s) (sym ends_at) (last_point s (shape_lawful s log b stands) dir line p)
 
       pub end_within : Within b.segments.points held.end
       end_within = subst (λ (n : ℕ). Within n held.end) (sym stands.segments.points) end_point
 
-      pub ends_on : (final : ℕ) → final ≡ name_in b.segments dir held.end → final ≡ segment s dir (last s dir line)
-      ends_on final f = f ∙ stands.segments.names dir held.end low end_point ∙ ap (segment s dir) ends_at
+      pub ends_on : (final : ℕ) → final ≡ name_in b.segments d held.end → final ≡ segment s dir (last s dir line)
+      ends_on final f = f ∙ ap (λ (k : ℕ). name_in b.segments k held.end) this ∙ stands.segments.names dir held.end low end_point ∙ ap (segment s dir) ends_at
 
 -- ---- a pair
 -- none of the four ways
@@ -69,7 +69,7 @@ module _ (s : Shape) (gap : Arcs) (r c : ℕ) where
   decides_open o h e = ((λ t. answered LeftOpen (subst (λ (x : Result Pairing Refusal). Answers s gap (apart r c) (of_pair x)) e h)), λ pair. refl)
 
   pub decides_not_open : (o : Result Pairing Refusal) → Answers s gap (apart r c) (of_pair o) → ¬ (o ≡ Ok LeftOpen) → Decides false (Open s (Arc gap) r c)
-  decides_not_open o h n = ((λ t. let z : ◌≡◌ {A = ℕ} 0 1 = cc in absurd (omega arith)), λ pair. absurd (n (open_told o h pair)))
+  decides_not_open o h n = ((λ t. absurd cc), λ pair. absurd (n (open_told o h pair)))
 
 -- ---- the pairs in order: by rows, and by columns in a row
 -- no pair before the row r and the column c is open
@@ -77,10 +77,6 @@ abbrev pub NoneBefore : Shape → Arcs → ℕ → ℕ → Type 0
 NoneBefore s gap r c = ((q d : ℕ) → q < r → ¬ Open s (Arc gap) q d) × ((d : ℕ) → d < c → ¬ Open s (Arc gap) r d)
 
 module _ (s : Shape) (gap : Arcs) where
-  -- the numbers begin at 1
-  pub none_at_first : NoneBefore s gap 1 1
-  none_at_first = ((λ q d h pair. omega (arith, pair.0.1.0)), λ d h pair. omega (arith, pair.1.1.0))
-
   pub column_passed : (r c : ℕ) → NoneBefore s gap r c → ¬ Open s (Arc gap) r c → NoneBefore s gap r (c + 1)
   column_passed r c before here = (
     before.0,
@@ -90,7 +86,7 @@ module _ (s : Shape) (gap : Arcs) where
     ],
   )
 
-  -- and end at the number of points
+  -- the numbers of columns begin at 1 and end at the number of points
   pub row_passed : (r c : ℕ) → s.points < c → NoneBefore s gap r c → NoneBefore s gap (r + 1) 1
   row_passed r c late before = (
     λ q d h pair. elim (cases_lt q r) [

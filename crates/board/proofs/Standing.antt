@@ -1,42 +1,22 @@
 -- What a board that stands for a log knows of the arcs in force. Assumes nothing.
-use Rattle.std.proofs.Common.{◌≡◌, ℕ, suc, ◌+◌, ◌<◌, ◌≤◌, Bool, true, false, cond, T, List, pos, is_some, Decides, sym, refl, ap, ◌∙◌, subst, arith}
+use Rattle.std.proofs.Common.{◌≡◌, ℕ, suc, ◌≤◌, Bool, true, false, cond, T, List, pos, is_some, Decides, sym, refl, ap, ◌∙◌, subst, arith}
 use mathlib.Core.Path.{fun_ext}
-use native.Mathlib.Decide.{ℕ_discrete, dec_le}
 use Rattle.std.proofs.lemmas.Bool.{le-leb}
-use Rattle.std.specs.Bool.{then_some}
+use Rattle.std.specs.Bool.{then_some, passes}
 use Rattle.segments.specs.Shapes.{Shape, Lawful}
-use Rattle.segments.specs.Segments.{segment, Named, ShapeArc}
+use Rattle.segments.specs.Segments.{ShapeArc}
 use Rattle.drawings.specs.Arcs.{Arc, Path, BetweenNames, Circle, Contradictory}
 use Rattle.drawings.specs.Graphs.{as_gap, graph}
 use Rattle.drawings.proofs.Climbing.{path_map}
-use Rattle.drawings.proofs.Deciding.{dec_and, dec_by, point?}
 use Rattle.propagation.specs.Tables.{arc_gaps}
+use Rattle.propagation.proofs.Leading.{true_by}
 use Rattle.shape.specs.Keeping.{neighbours_lawful}
 use Rattle.path_table.specs.Joined.{joined}
-use Rattle.path_table.specs.Tracks.{Tracks}
 use Rattle.path_table.specs.declared.direction_arcs.DirectionArcs.{DirectionArcs}
 use Rattle.logs.specs.Lines.{Line}
 use Rattle.logs.proofs.Stepping.{gap_named, gap_no_circle}
 use Rattle.board.specs.Boards.{arcs_of, held, gap_of, Stands}
 use Rattle.board.specs.declared.board.Board.{Board}
-
-pub is_true : (t : Bool) → t ≡ true → T t
-is_true true e = tt
-is_true false e = let z : ◌≡◌ {A = ℕ} 0 1 = ap (λ (b : Bool). cond b 1 0) e in absurd (omega arith)
-
-pub true_is : (t : Bool) → T t → t ≡ true
-true_is true h = refl
-true_is false h = absurd h
-
-pub not_true : {A : Type 0} (t : Bool) → Decides t A → t ≡ false → ¬ A
-not_true t d e a = let z : ◌≡◌ {A = ℕ} 0 1 = ap (λ (b : Bool). cond b 1 0) (sym e ∙ d.1 a) in absurd (omega arith)
-
--- what holds of the numbers from 1 up to k, and of k
-pub one_more : (P : ℕ → Type 0) (k : ℕ) → ((u : ℕ) → 1 ≤ u → u < k → P u) → P k → (u : ℕ) → 1 ≤ u → u < k + 1 → P u
-one_more P k below here u low high = elim (ℕ_discrete u k) [ yes e ↦ subst P (sym e) here | no d ↦ below u low (omega arith) ]
-
-pub named? : (s : Shape) (dir a : ℕ) → Dec (Named s dir a)
-named? s dir a = dec_by (λ t. (t.0, t.1.0, t.1.1)) (λ t. (t.0, (t.1, t.2))) (dec_and (dec_le dir 1) (dec_and (point? s a) (ℕ_discrete (segment s dir a) a)))
 
 -- ---- an arc that is held has a gap of one step
 gap_there : (t : Bool) → 1 ≤ cond t 1 0 → T t
@@ -58,7 +38,7 @@ module _ (b : Board) where
   joined_arc dir u v h t = there_gap (held b dir u v) (subst T (sym (held_joined dir u v h)) t)
 
   pub decides_arc : (dir u v : ℕ) → dir ≤ 1 → (r : Bool) → r ≡ joined (arcs_of b dir).force u v → Decides r (Arc (gap_of b) dir u v)
-  decides_arc dir u v h r e = ((λ t. joined_arc dir u v h (is_true _ (sym e ∙ t))), λ a. e ∙ true_is _ (arc_joined dir u v h a))
+  decides_arc dir u v h r e = ((λ t. joined_arc dir u v h (passes _ (sym e ∙ t))), λ a. e ∙ true_by _ (arc_joined dir u v h a))
 
   pub decides_path : (dir u v : ℕ) → dir ≤ 1 → (r : Bool) → Decides r (Path (λ x y. T (joined (arcs_of b dir).force x y)) u v) → Decides r (Path (Arc (gap_of b) dir) u v)
   decides_path dir u v h r d = (
@@ -87,9 +67,8 @@ module _ (s : Shape) (log : List Line) (b : Board) (stands : Stands s log b) whe
 
   -- what the arcs of a direction, lent as t, answer
   module _ (dir u v : ℕ) (h : dir ≤ 1) (t : DirectionArcs) (lent : t ≡ arcs_of b dir) (r : Bool) where
-    pub reaches_tells : (Tracks t → Decides r (Path (λ x y. T (joined t.force x y)) u v)) → Decides r (Path (Arc (gap_of b) dir) u v)
-    reaches_tells d =
-        decides_path b dir u v h r (subst (λ (x : DirectionArcs). Tracks x → Decides r (Path (λ y z. T (joined x.force y z)) u v)) lent d (stands.tracks dir h))
+    pub reaches_tells : Decides r (Path (λ x y. T (joined t.force x y)) u v) → Decides r (Path (Arc (gap_of b) dir) u v)
+    reaches_tells d = decides_path b dir u v h r (subst (λ (x : DirectionArcs). Decides r (Path (λ y z. T (joined x.force y z)) u v)) lent d)
 
     pub has_tells : r ≡ joined t.force u v → Decides r (Arc (gap_of b) dir u v)
     has_tells e = decides_arc b dir u v h r (e ∙ ap (λ (x : DirectionArcs). joined x.force u v) lent)

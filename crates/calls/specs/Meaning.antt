@@ -8,9 +8,9 @@ use Rattle.calls.specs.declared.answer.Answer.{Answer}
 use Rattle.calls.specs.declared.answer.Answer.TheVariants.{Done, Told, Paired, Drew, Refused}
 
 abbrev pub line_of : Line → log.Line
-line_of (Add dir a b) = log.add dir a b
-line_of (Strike dir a b) = log.strike dir a b
-line_of (Arc dir a b) = log.arc dir a b
+line_of (Add arc) = log.add arc.direction arc.from arc.to
+line_of (Strike arc) = log.strike arc.direction arc.from arc.to
+line_of (Arc arc) = log.arc arc.direction arc.from arc.to
 line_of (Apart r c) = log.apart r c
 line_of (Draft n) = log.draft n
 line_of (Lay n across up) = log.lay n (vec_items across) (vec_items up)

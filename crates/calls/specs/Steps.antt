@@ -1,8 +1,9 @@
 -- The lines of a replay's text, one after the other. Assumes nothing.
-use Rattle.std.specs.Prelude.{◌≡◌, ℕ, ◌+◌, ◌^◌, ◌<◌, ◌⊎◌, List, [], ◌++◌, length, codes, ◌≢◌, slice_index}
+use Rattle.std.specs.Prelude.{◌≡◌, ℕ, ◌+◌, ◌^◌, ◌<◌, ◌⊎◌, List, [], ◌++◌, length, codes, Option, Some, None, Result, Ok, Err, ◌≢◌, slice_index}
 use Rattle.calls.specs.Texts.{command_text}
-use Rattle.calls.specs.declared.commands.Step.{Step}
-use Rattle.calls.specs.declared.commands.Step.TheVariants.{Read, Unreadable, End}
+use Rattle.calls.specs.declared.commands.Numbered.{Numbered}
+use Rattle.calls.specs.declared.commands.ReadError.{ReadError}
+use Rattle.calls.specs.declared.commands.ReadError.TheVariants.{Unreadable, Memory}
 
 -- no byte of the line is a newline
 abbrev pub OneLine : List ℕ → Type 0
@@ -17,7 +18,8 @@ abbrev pub Counted : ℕ → ℕ → Type 0
 Counted lines after = lines + 1 < 2 ^ 64 → after ≡ lines + 1
 
 -- a step takes one line from the text, or finds the text at its end: the rest and the lines so far, before and after
-abbrev pub Steps : Step → List ℕ → ℕ → List ℕ → ℕ → Type 0
-Steps (Read command) text n rest m = FirstLine text (command_text command) rest × Counted n m
-Steps (Unreadable number) text n rest m = ((line : List ℕ) × FirstLine text line rest) × Counted n m × (number ≡ m)
-Steps End text n rest m = (text ≡ []) × (rest ≡ text) × (m ≡ n)
+abbrev pub Steps : Option (Result Numbered ReadError) → List ℕ → ℕ → List ℕ → ℕ → Type 0
+Steps (Some (Ok read)) text n rest m = FirstLine text (command_text read.command) rest × Counted n m × (read.line ≡ m)
+Steps (Some (Err (Unreadable number))) text n rest m = ((line : List ℕ) × FirstLine text line rest) × Counted n m × (number ≡ m)
+Steps (Some (Err (Memory e))) text n rest m = ((line : List ℕ) × FirstLine text line rest) × Counted n m
+Steps None text n rest m = (text ≡ []) × (rest ≡ text) × (m ≡ n)

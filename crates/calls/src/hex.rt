@@ -1,8 +1,7 @@
 // Bytes as text: two lower-case hexadecimal digits each, and a dash for no bytes.
-ghost use Rattle.std.specs.Prelude.{◌≡◌, ◌<◌, Some};
-ghost use Rattle.std.specs.Char.{digit_char};
+ghost use Rattle.std.specs.Prelude.{Some};
 ghost use Rattle.std.specs.Fmt.{WritesOnOk};
-ghost use Rattle.calls.specs.Texts.{each, byte_text, bytes_text};
+ghost use Rattle.calls.specs.Texts.{byte_text, bytes_text};
 
 use std::fmt;
 
@@ -11,33 +10,11 @@ pub struct Hex<'a> {
     pub bytes: &'a [u8],
 }
 
-fn hex_digit(value: u8) -> char
-    requires { value < 16 }
-    ensures digit { result ≡ digit_char value }
-    ensures ascii { result < 128 }
-{
-    if value < 10 {
-        char::from(b'0' + value)
-    } else {
-        char::from(b'a' + (value - 10))
-    }
-}
-
+#[tactic(auto, using(std::proofs::lemmas::Fmt::hex_byte))]
 fn write_byte<W: fmt::Write>(f: &mut fmt::Formatter<W>, byte: u8) -> fmt::Result
     ensures { WritesOnOk W.Write.write_str_gives f.old result (byte_text byte) f.new }
 {
-    let high = hex_digit(byte / 16);
-    let low = hex_digit(byte % 16);
-    write!(f, "{high}{low}")
-}
-
-fn write_bytes<W: fmt::Write>(f: &mut fmt::Formatter<W>, bytes: &[u8]) -> fmt::Result
-    ensures { WritesOnOk W.Write.write_str_gives f.old result (each byte_text bytes.now) f.new }
-{
-    for byte in bytes {
-        write_byte(f, *byte)?;
-    }
-    Ok(())
+    write!(f, "{byte:02x}")
 }
 
 impl fmt::Display for Hex<'_> {
@@ -45,9 +22,11 @@ impl fmt::Display for Hex<'_> {
 
     fn fmt<W: fmt::Write>(&self, f: &mut fmt::Formatter<W>) -> fmt::Result {
         if self.bytes.is_empty() {
-            f.write_str("-")
-        } else {
-            write_bytes(f, self.bytes)
+            return f.write_str("-");
         }
+        for byte in self.bytes {
+            write_byte(f, *byte)?;
+        }
+        Ok(())
     }
 }

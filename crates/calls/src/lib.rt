@@ -2,11 +2,9 @@
 #![tactic(auto)]
 
 pub mod answer;
-pub mod answer_text;
 pub mod command;
-pub mod command_text;
 pub mod commands;
 pub mod hex;
 pub mod line;
 pub mod read;
-mod words;
+mod unread;

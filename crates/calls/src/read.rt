@@ -1,131 +1,122 @@
 // Commands read from text.
-ghost use Rattle.std.specs.Prelude.{◌≡◌, IfSome, IfOk};
+ghost use Rattle.std.specs.Prelude.{◌≡◌, ◌<◌, IfSome, IfOk};
 ghost use Rattle.calls.specs.Texts.{command_text};
 
-use crate::command::Command;
-use crate::line::Line;
-use crate::words::{read_bytes, read_number};
+use crate::command::{Command, Opening};
+use crate::line::{Arc, Line};
+use crate::unread::Unread;
 use std::alloc::{AllocError, Global};
 
-fn read_pair(text: &str) -> Option<(usize, usize)> {
-    let (first, second) = text.split_once(' ')?;
-    Some((read_number(first)?, read_number(second)?))
+// The first word of a text, and what follows the space after it.
+fn first_word(text: &str) -> Result<(&str, &str), Unread> {
+    text.split_once(' ').ok_or(Unread::NoCommand)
 }
 
-fn read_arc(text: &str) -> Option<(usize, usize, usize)> {
-    let (direction, ends) = text.split_once(' ')?;
+fn read_pair(text: &str) -> Result<(usize, usize), Unread> {
+    let (first, second) = first_word(text)?;
+    Ok((first.parse()?, second.parse()?))
+}
+
+fn read_arc(text: &str) -> Result<Arc, Unread> {
+    let (direction, ends) = first_word(text)?;
     let (from, to) = read_pair(ends)?;
-    Some((read_number(direction)?, from, to))
+    Ok(Arc {
+        direction: direction.parse()?,
+        from,
+        to,
+    })
 }
 
-fn read_lay(heap: Global, text: &str) -> Result<Option<Line>, AllocError> {
-    let Some((points, cells)) = text.split_once(' ') else {
-        return Ok(None);
-    };
-    let Some((across, up)) = cells.split_once(' ') else {
-        return Ok(None);
-    };
-    let Some(points) = read_number(points) else {
-        return Ok(None);
-    };
-    let Some(across) = read_bytes(heap, across)? else {
-        return Ok(None);
-    };
-    let Some(up) = read_bytes(heap, up)? else {
-        return Ok(None);
-    };
-    Ok(Some(Line::Lay { points, across, up }))
+fn read_digit(digit: u8) -> Result<u8, Unread>
+    ensures { IfOk result (λ value. value < 16) }
+{
+    let value = char::from(digit).to_digit(16).ok_or(Unread::NoCommand)?;
+    Ok(value as u8)
 }
 
-fn read_line(heap: Global, word: &str, text: &str) -> Result<Option<Line>, AllocError> {
-    if word == "lay" {
-        return read_lay(heap, text);
+fn read_byte(digits: &[u8]) -> Result<u8, Unread> {
+    let [high, low] = digits else {
+        return Err(Unread::NoCommand);
+    };
+    Ok(read_digit(*high)? * 16 + read_digit(*low)?)
+}
+
+fn read_bytes(heap: Global, text: &str) -> Result<Vec<u8>, Unread> {
+    if text == "-" {
+        return Ok(Vec::new(heap));
     }
-    Ok(read_short_line(word, text))
+    text.as_bytes().chunks(2).map(read_byte).try_collect(heap)
 }
 
-fn read_short_line(word: &str, text: &str) -> Option<Line> {
+fn read_lay(heap: Global, text: &str) -> Result<Line, Unread> {
+    let (points, cells) = first_word(text)?;
+    let (across, up) = first_word(cells)?;
+    Ok(Line::Lay {
+        points: points.parse()?,
+        across: read_bytes(heap, across)?,
+        up: read_bytes(heap, up)?,
+    })
+}
+
+// A match over the words, and no table: each is followed by arguments of its own.
+fn read_line(heap: Global, word: &str, text: &str) -> Result<Line, Unread> {
     match word {
-        "add" => {
-            let (direction, from, to) = read_arc(text)?;
-            Some(Line::Add {
-                direction,
-                from,
-                to,
-            })
-        }
-        "strike" => {
-            let (direction, from, to) = read_arc(text)?;
-            Some(Line::Strike {
-                direction,
-                from,
-                to,
-            })
-        }
-        "arc" => {
-            let (direction, from, to) = read_arc(text)?;
-            Some(Line::Arc {
-                direction,
-                from,
-                to,
-            })
-        }
+        "add" => Ok(Line::Add(read_arc(text)?)),
+        "strike" => Ok(Line::Strike(read_arc(text)?)),
+        "arc" => Ok(Line::Arc(read_arc(text)?)),
         "apart" => {
             let (row, column) = read_pair(text)?;
-            Some(Line::Apart { row, column })
+            Ok(Line::Apart { row, column })
         }
-        "draft" => {
-            let points = read_number(text)?;
-            Some(Line::Draft { points })
-        }
-        _ => None,
+        "draft" => Ok(Line::Draft {
+            points: text.parse()?,
+        }),
+        "lay" => read_lay(heap, text),
+        _ => Err(Unread::NoCommand),
     }
 }
 
-fn read_case(heap: Global, text: &str) -> Result<Option<Command>, AllocError> {
-    let Some((number, rest)) = text.split_once(' ') else {
-        return Ok(None);
-    };
-    let Some((shape, turns)) = rest.split_once(' ') else {
-        return Ok(None);
-    };
-    let (Some(number), Some(turns)) = (read_number(number), read_number(turns)) else {
-        return Ok(None);
-    };
-    let Some(shape) = read_bytes(heap, shape)? else {
-        return Ok(None);
-    };
-    Ok(Some(Command::Case {
+fn read_opening(heap: Global, text: &str) -> Result<Opening, Unread> {
+    let (number, rest) = first_word(text)?;
+    let (shape, turns) = first_word(rest)?;
+    let number = number.parse()?;
+    let turns = turns.parse()?;
+    let shape = read_bytes(heap, shape)?;
+    Ok(Opening {
         number,
         shape,
         turns,
-    }))
+    })
 }
 
 // What a text may stand for; another text may be read as the same command.
-fn read_loosely(heap: Global, text: &str) -> Result<Option<Command>, AllocError> {
-    let Some((word, rest)) = text.split_once(' ') else {
-        return Ok(None);
-    };
-    if word == "case" {
-        return read_case(heap, rest);
+fn read_loosely(heap: Global, text: &str) -> Result<Command, Unread> {
+    let (word, rest) = first_word(text)?;
+    match word {
+        "case" => Ok(Command::Case(read_opening(heap, rest)?)),
+        _ => Ok(Command::Call(read_line(heap, word, rest)?)),
     }
-    let Some(line) = read_line(heap, word, rest)? else {
-        return Ok(None);
-    };
-    Ok(Some(Command::Call(line)))
 }
 
-// The command whose text this is, if it is found: no two texts are read as one command.
+// The command whose text this is: no two texts are read as one command.
+fn read_exactly(heap: Global, text: &str) -> Result<Command, Unread>
+    ensures { IfOk result (λ command. command_text command ≡ text.now) }
+{
+    let command = read_loosely(heap, text)?;
+    let printed = format!(in heap; "{command}")?;
+    if printed.as_str() != text {
+        return Err(Unread::NoCommand);
+    }
+    Ok(command)
+}
+
+// The command whose text this is, if it is found.
 pub fn read(heap: Global, text: &str) -> Result<Option<Command>, AllocError>
     ensures { IfOk result (λ o. IfSome o (λ command. command_text command ≡ text.now)) }
 {
-    let Some(command) = read_loosely(heap, text)? else {
-        return Ok(None);
-    };
-    let printed = format!(in heap; "{command}")?;
-    if printed.as_str() != text {
-        return Ok(None);
+    match read_exactly(heap, text) {
+        Ok(command) => Ok(Some(command)),
+        Err(Unread::NoCommand) => Ok(None),
+        Err(Unread::Memory(error)) => Err(error),
     }
-    Ok(Some(command))
 }

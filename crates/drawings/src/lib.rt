@@ -48,7 +48,7 @@ pub fn largest_coordinate(gap: u32, points: u32) -> u64
     ensures within { DraftWithin gap points result × LayWithin gap points result }
 {
     let further = points.saturating_sub(1);
-    gap as u64 * further as u64
+    u64::from(gap) * u64::from(further)
 }
 
 // The largest total of a drawing, by coordinates of so much at the most: two directions, each with a wire for each point but the last.
@@ -56,8 +56,8 @@ pub fn largest_total(coordinate: u16, points: u16) -> u64
     ensures within { TotalWithin coordinate points result }
 {
     let wires = points.saturating_sub(1);
-    let along = coordinate as u32 * wires as u32;
-    2 * along as u64
+    let along = u32::from(coordinate) * u32::from(wires);
+    2 * u64::from(along)
 }
 
 // The round of places that tells whether the arcs close a circle, and over the flow layer whether a balanced flow is greatest: the number of points.

@@ -5,109 +5,89 @@ ghost use Rattle.std.specs.Prelude.{◌≤◌};
 
 use propagation::arc_table::ArcTable;
 use propagation::flow_layer::FlowLayer;
-use propagation::graph::ConstraintGraph;
+use propagation::graph::{ConstraintGraph, MOST_NODES};
 use propagation::label::Label;
 use propagation::longest::longest_places;
 use propagation::place::Place;
 use propagation::reaching::reaches;
 
-const MOST: usize = 128;
-
 // A chain through all nodes, and about every fourth of the arcs that shorten it.
-fn linked(table: &mut ArcTable) {
-    let nodes = table.nodes();
+fn linked(nodes: usize) -> Option<ArcTable> {
+    let mut table = ArcTable::new(nodes)?;
     for from in 0..nodes {
-        link(table, from, nodes);
-    }
-}
-
-fn link(table: &mut ArcTable, from: usize, nodes: usize)
-    requires { nodes ≤ 128 }
-{
-    for to in 0..nodes {
-        if from < to && (to - from == 1 || (from * 7 + to * 3) % 4 == 0) {
-            table.set(from, to);
+        for to in from + 1..nodes {
+            if to - from == 1 || (from * 7 + to * 3) % 4 == 0 {
+                table.set(from, to);
+            }
         }
     }
+    Some(table)
 }
 
 // One in each cell of the chain.
-fn flow_along(cells: &mut [u8], nodes: usize)
-    requires { nodes ≤ 128 }
-{
-    for to in 1..nodes {
-        let cell = (to - 1) * nodes + to;
-        if cell < cells.len() {
-            cells[cell] = 1;
+fn flow_along(table: &ArcTable) -> [u8; MOST_NODES * MOST_NODES] {
+    let mut cells = [0; MOST_NODES * MOST_NODES];
+    for (from, row) in cells.chunks_mut(table.nodes()).enumerate() {
+        if let Some(cell) = row.get_mut(from + 1) {
+            *cell = 1;
         }
     }
+    cells
+}
+
+// How many of so many runs come to a yes.
+fn yes_count<F: FnMut() -> bool>(times: u32, mut run: F) -> u32
+    requires { F.IsAlwaysCallable run }
+    ensures { result ≤ times }
+{
+    // A loop, and no chain: the proof that a filter may call the caller's closure at each number does not close.
+    let mut count = 0;
+    for _run in 0..times {
+        count += u32::from(run());
+    }
+    count
 }
 
 // Longest places, so many times.
 fn settled<G: ConstraintGraph>(graph: &G, times: u32) -> u32
     ensures { result ≤ times }
 {
-    let mut places = [Place::NONE; MOST];
-    settled_in(graph, &mut places[0..graph.nodes()], times)
-}
-
-fn settled_in<G: ConstraintGraph>(graph: &G, places: &mut [Place], times: u32) -> u32
-    ensures { result ≤ times }
-{
-    let mut count = 0;
-    for _run in 0..times {
-        if longest_places(graph, places) == Ok(true) {
-            count += 1;
-        }
-    }
-    count
-}
-
-// Whether the last node is reached from the first, so many times.
-fn reached<G: ConstraintGraph>(graph: &G, times: u32) -> u32
-    ensures { result ≤ times }
-{
-    let mut count = 0;
-    for _run in 0..times {
-        if reaches(graph, 0, graph.nodes() - 1) {
-            count += 1;
-        }
-    }
-    count
+    // fixed memory, here and for the cells: a call from C hands in no allocator
+    let mut memory = [Place::NONE; MOST_NODES];
+    let places = &mut memory[0..graph.nodes()];
+    yes_count(times, || longest_places(graph, places) == Ok(true))
 }
 
 #[unsafe(no_mangle)]
 pub extern "C" fn places_over_table(nodes: usize, times: u32) -> u32
     ensures { result ≤ times }
 {
-    let Some(mut table) = ArcTable::new(nodes) else {
-        return 0;
-    };
-    linked(&mut table);
-    settled(&table, times)
+    match linked(nodes) {
+        Some(table) => settled(&table, times),
+        None => 0,
+    }
 }
 
 #[unsafe(no_mangle)]
 pub extern "C" fn places_over_layer(nodes: usize, times: u32) -> u32
     ensures { result ≤ times }
 {
-    let Some(mut table) = ArcTable::new(nodes) else {
-        return 0;
-    };
-    linked(&mut table);
-    let mut cells = [0u8; 16384];
-    flow_along(&mut cells, table.nodes());
-    let layer = FlowLayer::new(&table, &cells);
-    settled(&layer, times)
+    match linked(nodes) {
+        Some(table) => settled(&FlowLayer::new(&table, &flow_along(&table)), times),
+        None => 0,
+    }
 }
 
+// Whether the last node is reached from the first, so many times.
 #[unsafe(no_mangle)]
 pub extern "C" fn reaches_over_table(nodes: usize, times: u32) -> u32
     ensures { result ≤ times }
 {
-    let Some(mut table) = ArcTable::new(nodes) else {
-        return 0;
-    };
-    linked(&mut table);
-    reached(&table, times)
+    match linked(nodes) {
+        Some(table) => {
+            let last = table.nodes() - 1;
+            yes_count(times, || reaches(&table, 0, last))
+        }
+        None => 0,
+    }
 }

@@ -1,24 +1,15 @@
 -- A chain whose arcs all have one gap, as a graph. Assumes nothing.
-use Rattle.std.specs.Prelude.{◌≡◌, ℕ, ◌-◌, ◌<◌, Bool, true, false, ◌&&◌, T, ℤ, is_some, Some, ◌==◌, nat_lt}
-use Rattle.std.proofs.Common.{subst, arith, ltb→lt}
+use Rattle.std.specs.Prelude.{◌-◌, ◌<◌, ◌&&◌, ◌==◌, nat_lt}
+use Rattle.std.proofs.Common.{arith, ltb→lt}
 use Rattle.std.specs.Bool.{then_some}
 use Rattle.walks.specs.Nodes.{Gaps}
-use Rattle.propagation.specs.Graphs.{Within, Bounds}
+use Rattle.propagation.specs.Graphs.{Bounds}
+use Rattle.propagation.specs.Keeping.{first_two, own_gap}
 use Rattle.engine_trials.specs.declared.slope.Slope.{Slope}
 
 -- one arc from each node to the next
 abbrev pub slope_gaps : Slope → Gaps
 slope_gaps s a b = then_some (nat_lt a b && (nat_lt b s.nodes && b - a == 1)) s.gap
-
-rising : (p q r : Bool) (g : ℤ) → T (is_some (then_some (p && (q && r)) g)) → T p × T q
-rising true true true g t = (tt, tt)
-rising true true false g t = absurd t
-rising true false r g t = absurd t
-rising false q r g t = absurd t
-
-own_gap : (t : Bool) (h g : ℤ) → then_some t h ≡ Some g → Within 100 h → Within 100 g
-own_gap true h g e w = let i : h ≡ g = cc in subst (Within 100) i w
-own_gap false h g e w = absurd (let y : ◌≡◌ {A = ℕ} 0 1 = cc in omega arith)
 
 pub slope_bounds : Bounds (λ s. s.nodes) slope_gaps
 slope_bounds =
@@ -27,7 +18,7 @@ slope_bounds =
       at_most_128 = λ s. s.at_most_128;
       gaps_within_100 = λ s a b g ha hb e. own_gap (nat_lt a b && (nat_lt b s.nodes && b - a == 1)) s.gap g e (s.low, s.high);
       arcs_join_nodes = λ s a b arc.
-          let t = rising (nat_lt a b) (nat_lt b s.nodes) (b - a == 1) s.gap arc in
+          let t = first_two (nat_lt a b) (nat_lt b s.nodes) (b - a == 1) s.gap arc in
           let p = ltb→lt a b t.0 in
           let q = ltb→lt b s.nodes t.1 in
           let r : a < s.nodes = omega arith in

@@ -1,7 +1,7 @@
 // Runs the engine over small and large graphs, and prints what it answers and what its two memories hold.
 #![tactic(auto)]
 
-use anyhow::anyhow;
+use anyhow::Context;
 use graphs::{chain, circuit, two_ways};
 use propagation::arc_table::ArcTable;
 use propagation::flow_layer::FlowLayer;
@@ -17,59 +17,30 @@ mod graphs;
 mod run;
 mod slope;
 
-// The answer, whether the memories are alike, and both labels of the first and of the last node.
-fn show(rt: &HostRuntime, name: &str, run: Run) -> anyhow::Result<()> {
-    match run.answer {
-        Ok(true) => println!(rt; "{name}: settled")?,
-        Ok(false) => println!(rt; "{name}: not settled")?,
-        Err(refusal) => println!(rt; "{name}: refused, {}", refusal.number())?,
-    }
-    let first = run.at(0);
-    let last = run.at(run.last());
-    println!(rt;
-        "  memories alike: {}; first {:?}, {:?}; last {:?}, {:?}",
-        run.memories_alike(),
-        first.0,
-        first.1,
-        last.0,
-        last.1
-    )?;
-    Ok(())
-}
-
-fn trial(
+fn trial<G: ConstraintGraph>(
     rt: &HostRuntime,
     name: &str,
-    table: Option<ArcTable>,
+    graph: &G,
     first: Place,
     others: Place,
 ) -> anyhow::Result<()> {
-    match table {
-        Some(table) => show(rt, name, Run::from(&table, first, others)),
-        None => Err(anyhow!("no table")),
-    }
-}
-
-fn slope_trial(
-    rt: &HostRuntime,
-    name: &str,
-    slope: Option<Slope>,
-    others: Place,
-) -> anyhow::Result<()> {
-    match slope {
-        Some(slope) => show(rt, name, Run::from(&slope, Place::new(0), others)),
-        None => Err(anyhow!("no slope")),
-    }
+    let run = Run::from(rt.alloc(), graph, first, others)?;
+    println!(rt; "{name}: {run}")?;
+    Ok(())
 }
 
 // The steepest gaps, up and down.
 fn slope_trials(rt: &HostRuntime) -> anyhow::Result<()> {
-    slope_trial(rt, "a slope of 100", Slope::new(128, 100), Place::new(0))?;
-    slope_trial(rt, "a slope of -100", Slope::new(128, -100), Place::new(0))?;
-    slope_trial(
+    let zero = Place::new(0);
+    let up = Slope::new(128, 100).context("no slope")?;
+    let down = Slope::new(128, -100).context("no slope")?;
+    trial(rt, "a slope of 100", &up, zero, zero)?;
+    trial(rt, "a slope of -100", &down, zero, zero)?;
+    trial(
         rt,
         "a slope of -100, from its first node alone",
-        Slope::new(128, -100),
+        &down,
+        zero,
         Place::NONE,
     )
 }
@@ -87,25 +58,25 @@ fn layer_trials(rt: &HostRuntime, table: &ArcTable) -> anyhow::Result<()> {
         upper.gap(1, 0),
         upper.gap(2, 1)
     )?;
-    show(
-        rt,
-        "two layers",
-        Run::from(&upper, Place::new(0), Place::new(0)),
-    )?;
-    show(
+    trial(rt, "two layers", &upper, Place::new(0), Place::new(0))?;
+    trial(
         rt,
         "two layers, from none",
-        Run::from(&upper, Place::NONE, Place::NONE),
+        &upper,
+        Place::NONE,
+        Place::NONE,
     )
 }
 
 // A flow on the short way while the long way pushes: the circuit gains.
 fn short_flow_trial(rt: &HostRuntime, table: &ArcTable) -> anyhow::Result<()> {
     let cells = [0, 0, 1, 0, 0, 0, 0, 0, 0];
-    show(
+    trial(
         rt,
         "flow on the short way",
-        Run::from(&FlowLayer::new(table, &cells), Place::new(0), Place::new(0)),
+        &FlowLayer::new(table, &cells),
+        Place::new(0),
+        Place::new(0),
     )
 }
 
@@ -140,12 +111,8 @@ fn place_trials(rt: &HostRuntime, line: &ArcTable, ring: &ArcTable) -> anyhow::R
 }
 
 fn thin_calls(rt: &HostRuntime) -> anyhow::Result<()> {
-    let Some(line) = chain(128) else {
-        return Err(anyhow!("no table"));
-    };
-    let Some(ring) = circuit(3) else {
-        return Err(anyhow!("no table"));
-    };
+    let line = chain(128)?;
+    let ring = circuit(3)?;
     reach_trials(rt, &line, &ring)?;
     place_trials(rt, &line, &ring)
 }
@@ -154,38 +121,45 @@ fn thin_calls(rt: &HostRuntime) -> anyhow::Result<()> {
 fn table_trials(rt: &HostRuntime) -> anyhow::Result<()> {
     let zero = Place::new(0);
     let far = Place::new(32_000);
-    trial(rt, "one node", chain(1), zero, zero)?;
-    trial(rt, "one node with an arc to itself", circuit(1), zero, zero)?;
-    trial(rt, "a chain of 128", chain(128), zero, zero)?;
+    trial(rt, "one node", &chain(1)?, zero, zero)?;
+    trial(
+        rt,
+        "one node with an arc to itself",
+        &circuit(1)?,
+        zero,
+        zero,
+    )?;
+    trial(rt, "a chain of 128", &chain(128)?, zero, zero)?;
     trial(
         rt,
         "a chain of 128, from its first node alone",
-        chain(128),
+        &chain(128)?,
         zero,
         Place::NONE,
     )?;
     trial(
         rt,
         "a chain of 128, from none",
-        chain(128),
+        &chain(128)?,
         Place::NONE,
         Place::NONE,
     )?;
-    trial(rt, "a circuit of 128", circuit(128), zero, zero)?;
-    trial(rt, "a circuit at the end of the line", circuit(3), far, far)
+    trial(rt, "a circuit of 128", &circuit(128)?, zero, zero)?;
+    trial(
+        rt,
+        "a circuit at the end of the line",
+        &circuit(3)?,
+        far,
+        far,
+    )
 }
 
 fn main(rt: HostRuntime) -> anyhow::Result<()> {
     table_trials(&rt)?;
     slope_trials(&rt)?;
-    let Some(ways) = two_ways() else {
-        return Err(anyhow!("no table"));
-    };
-    show(
-        &rt,
-        "a second memory too long",
-        Run::misfit(&ways, Place::new(5)),
-    )?;
+    let ways = two_ways()?;
+    let misfit = Run::misfit(rt.alloc(), &ways, Place::new(5))?;
+    println!(rt; "a second memory too long: {misfit}")?;
     layer_trials(&rt, &ways)?;
     short_flow_trial(&rt, &ways)?;
     thin_calls(&rt)

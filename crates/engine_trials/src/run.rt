@@ -3,68 +3,75 @@ use propagation::engine::propagate;
 use propagation::graph::ConstraintGraph;
 use propagation::place::Place;
 use propagation::refusal::Refusal;
+use std::alloc::{AllocError, Global};
+use std::fmt;
 
-const MOST: usize = 128;
-
-#[derive(Clone, Copy)]
+#[derive(Drop)]
 pub(crate) struct Run {
-    nodes: usize,
-    pub(crate) answer: Result<bool, Refusal>,
-    newest: [Place; 128],
-    before: [Place; 128],
+    answer: Result<bool, Refusal>,
+    newest: Vec<Place>,
+    before: Vec<Place>,
 }
 
 impl Run {
     // The first node starts from one label and all others from another; what the second memory holds must have no influence.
-    pub(crate) fn from<G: ConstraintGraph>(graph: &G, first: Place, others: Place) -> Run {
+    pub(crate) fn from<G: ConstraintGraph>(
+        alloc: Global,
+        graph: &G,
+        first: Place,
+        others: Place,
+    ) -> Result<Run, AllocError> {
         let nodes = graph.nodes();
-        let mut newest = [others; MOST];
-        newest[0] = first;
-        let mut before = [Place::new(7); MOST];
-        let answer = propagate(graph, &mut newest[0..nodes], &mut before[0..nodes]);
+        let mut newest = vec![in alloc; others; nodes]?;
+        if let Some(start) = newest.first_mut() {
+            *start = first;
+        }
+        let before = vec![in alloc; Place::new(7); nodes]?;
+        Ok(Run::over(graph, newest, before))
+    }
+
+    // With a second memory that is one label too long.
+    pub(crate) fn misfit<G: ConstraintGraph>(
+        alloc: Global,
+        graph: &G,
+        start: Place,
+    ) -> Result<Run, AllocError> {
+        let nodes = graph.nodes();
+        let newest = vec![in alloc; start; nodes]?;
+        let before = vec![in alloc; Place::new(7); nodes + 1]?;
+        Ok(Run::over(graph, newest, before))
+    }
+
+    fn over<G: ConstraintGraph>(graph: &G, mut newest: Vec<Place>, mut before: Vec<Place>) -> Run {
+        let answer = propagate(graph, &mut newest, &mut before);
         Run {
-            nodes,
             answer,
             newest,
             before,
         }
     }
+}
 
-    // With a second memory that is one label too long.
-    pub(crate) fn misfit<G: ConstraintGraph>(graph: &G, start: Place) -> Run {
-        let nodes = graph.nodes();
-        let mut newest = [start; MOST];
-        let mut before = [Place::new(7); 129];
-        let answer = propagate(graph, &mut newest[0..nodes], &mut before[0..nodes + 1]);
-        Run {
-            nodes,
-            answer,
-            newest,
-            before: [before[0]; MOST],
+// The answer, whether the memories are alike, and both coordinates of the first and of the last node.
+impl fmt::Display for Run {
+    fn fmt<W: fmt::Write>(&self, f: &mut fmt::Formatter<W>) -> fmt::Result {
+        match self.answer {
+            Ok(true) => write!(f, "settled")?,
+            Ok(false) => write!(f, "not settled")?,
+            Err(refusal) => write!(f, "refused, {}", usize::from(refusal))?,
         }
-    }
-
-    pub(crate) fn memories_alike(&self) -> bool {
-        for node in 0..self.nodes {
-            if node < MOST && self.newest[node] != self.before[node] {
-                return false;
-            }
-        }
-        true
-    }
-
-    // The coordinate of a node in the first memory and in the second.
-    pub(crate) fn at(&self, node: usize) -> (Option<i16>, Option<i16>) {
-        if node >= MOST {
-            return (None, None);
-        }
-        (
-            self.newest[node].coordinate(),
-            self.before[node].coordinate(),
+        write!(
+            f,
+            "\n  memories alike: {}; first {:?}, {:?}; last {:?}, {:?}",
+            self.newest == self.before,
+            coordinate(self.newest.first()),
+            coordinate(self.before.first()),
+            coordinate(self.newest.last()),
+            coordinate(self.before.last())
         )
     }
+}
 
-    pub(crate) fn last(&self) -> usize {
-        self.nodes.saturating_sub(1)
-    }
+fn coordinate(place: Option<&Place>) -> Option<i16> {
+    place?.coordinate()
 }

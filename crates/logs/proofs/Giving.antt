@@ -64,7 +64,7 @@ module _ (s : Shape) (L : Lawful s) (e : Drawing) (draws : Draws s e) where
 
   -- ---- and each that the log holds is in force
   no_strike : (log l m : List Line) (dir a b : ℕ) → OnlyArcsOf s e log → ¬ (log ≡ l ++ (strike dir a b ∷ m))
-  no_strike log l m dir a b o q = let r = o l m (strike dir a b) q in let f = r.3 in let z : ◌≡◌ {A = ℕ} 0 1 = cc in omega arith
+  no_strike log l m dir a b o q = let r = o l m (strike dir a b) q in let f = r.3 in cc
 
   pub all_in_force : (log : List Line) → ArcsOf s e log → (dir a b : ℕ) → Gives s e dir a b → InForce s log dir a b
   all_in_force log w dir a b g =

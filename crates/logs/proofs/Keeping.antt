@@ -12,10 +12,11 @@ use Rattle.drawings.proofs.Steps.{step_obeys}
 use Rattle.drawings.proofs.Obeying.{obeying_is_simple}
 use Rattle.drawings.proofs.Shortest.{lay_is_shortest}
 use Rattle.logs.specs.Lines.{Line, add, arc, draft, lay, flow_of}
-use Rattle.logs.specs.Force.{AcceptsAdd, InForce, AddedAndKept, OneStepEach}
+use Rattle.logs.specs.Force.{AcceptsAdd, AcceptsStrike, InForce, AddedAndKept, OneStepEach}
 use Rattle.logs.specs.Refusing.{RefusesArc, RefusesAdd, RefusesDraft, MemoryFits, RefusesLay}
-use Rattle.logs.specs.Answers.{Answer, done, told, paired, drew, refused, HandsOut, AcceptsDraft, AcceptsLay, Judged, Answers, AnsweredAfter}
+use Rattle.logs.specs.Answers.{Answer, done, told, paired, drew, refused, Pairs, HandsOut, AcceptsDraft, AcceptsLay, Judged, Answers, AnsweredAfter}
 use Rattle.logs.specs.Promise.{ObeysForce, GreatestInForce, DraftInForce, LayInForce, MayDraft, MayLay, Tells, Drew, Sheet, ArcsOf, Moment}
+use Rattle.logs.specs.declared.pairing.Pairing.{Pairing}
 use Rattle.logs.specs.declared.refusal.Refusal.{Refusal}
 use Rattle.logs.specs.declared.spot.Spot.{Spot}
 use Rattle.logs.proofs.Stepping.{own_in_force, no_circle_in_force, arc_in_force, gap_one, gap_named, gap_own, add_accepted, add_never_both, arc_never_both, draft_never_both, lay_never_both}
@@ -23,7 +24,7 @@ use Rattle.logs.proofs.Telling.{in_force_as_the_log_tells}
 use Rattle.logs.proofs.Giving.{given, given_no_circle, given_accepted, all_none_open}
 
 -- ---- an answer is right, or a refusal that the rules give
-judged : (Right : Answer → Type 0) (Refuses : Refusal → Type 0) (answer : Answer) → Judged Right Refuses answer → Right answer ⊎ ((e : Refusal) × (answer ≡ refused e) × Refuses e)
+pub judged : (Right : Answer → Type 0) (Refuses : Refusal → Type 0) (answer : Answer) → Judged Right Refuses answer → Right answer ⊎ ((e : Refusal) × (answer ≡ refused e) × Refuses e)
 judged Right Refuses done r = inl r
 judged Right Refuses (told t) r = inl r
 judged Right Refuses (paired k) r = inl r
@@ -31,16 +32,22 @@ judged Right Refuses (drew sum places) r = inl r
 judged Right Refuses (refused e) r = inr (e, refl, r)
 
 -- what the rules call right
-abbrev RightAdd : Shape → Arcs → ℕ → ℕ → ℕ → Answer → Type 0
+abbrev pub RightAdd : Shape → Arcs → ℕ → ℕ → ℕ → Answer → Type 0
 RightAdd s gap dir a b r = (r ≡ done) × AcceptsAdd s (Arc gap) dir a b
 
-abbrev RightArc : Shape → Arcs → ℕ → ℕ → ℕ → Answer → Type 0
+abbrev pub RightStrike : Shape → Arcs → ℕ → ℕ → ℕ → Answer → Type 0
+RightStrike s gap dir a b r = (r ≡ done) × AcceptsStrike s (Arc gap) dir a b
+
+abbrev pub RightArc : Shape → Arcs → ℕ → ℕ → ℕ → Answer → Type 0
 RightArc s gap dir a b r = (t : Bool) × (r ≡ told t) × Named s dir a × Named s dir b × Decides t (Arc gap dir a b)
 
-abbrev RightDraft : Shape → Arcs → ℕ → Answer → Type 0
+abbrev pub RightPair : Shape → Arcs → ℕ → ℕ → Answer → Type 0
+RightPair s gap r c a = (k : Pairing) × (a ≡ paired k) × Named s 1 r × Named s 0 c × Pairs s gap r c k
+
+abbrev pub RightDraft : Shape → Arcs → ℕ → Answer → Type 0
 RightDraft s gap n r = (sum : ℕ) × (places : List Spot) × (c : Coordinates) × (r ≡ drew sum places) × AcceptsDraft s gap n × Draft s gap c × HandsOut s c sum places
 
-abbrev RightLay : Shape → Arcs → ℕ → List ℕ → List ℕ → Answer → Type 0
+abbrev pub RightLay : Shape → Arcs → ℕ → List ℕ → List ℕ → Answer → Type 0
 RightLay s gap n across up r = (sum : ℕ) × (places : List Spot) × (c : Coordinates) × (r ≡ drew sum places) × AcceptsLay s gap n across up × Lay s gap (flow_of s across up) c × HandsOut s c sum places
 
 -- ---- two gap functions of one step for the same arcs agree

@@ -1,18 +1,13 @@
 -- Answers by the rules keep the whole promise. Assumes nothing.
-use Rattle.std.proofs.Common.{◌≡◌, ℕ, ◌*◌, ◌<◌, Bool, List, length, Decides, refl}
+use Rattle.std.proofs.Common.{◌≡◌, ℕ, ◌*◌, ◌<◌, List, length, inl, inr}
 use Rattle.segments.specs.Shapes.{Shape, Lawful}
-use Rattle.segments.specs.Segments.{Named}
-use Rattle.drawings.specs.Arcs.{Arcs, Arc}
-use Rattle.drawings.specs.Flows.{Coordinates, Draft, Lay}
-use Rattle.logs.specs.Lines.{Line, add, strike, arc, apart, draft, lay, flow_of}
-use Rattle.logs.specs.Force.{AcceptsAdd, AcceptsStrike}
+use Rattle.drawings.specs.Arcs.{Arcs}
+use Rattle.logs.specs.Lines.{Line, add, strike, arc, apart, draft, lay}
 use Rattle.logs.specs.Refusing.{RefusesArc, RefusesAdd, RefusesStrike, RefusesPair, RefusesDraft, RefusesLay}
-use Rattle.logs.specs.Answers.{Answer, done, told, paired, drew, refused, Pairs, HandsOut, AcceptsDraft, AcceptsLay, Judged, Answers, Accepts, AnsweredExactly, AnsweredAfter}
-use Rattle.logs.specs.declared.pairing.Pairing.{Pairing}
+use Rattle.logs.specs.Answers.{Answer, refused, Judged, Answers, Accepts, AnsweredExactly, AnsweredAfter}
 use Rattle.logs.specs.declared.refusal.Refusal.{Refusal}
-use Rattle.logs.specs.declared.spot.Spot.{Spot}
 use Rattle.logs.specs.Promise.{log_before, line_at, answer_at, KeepsItsPromise, AnswersKeepThePromise}
-use Rattle.logs.proofs.Keeping.{moment}
+use Rattle.logs.proofs.Keeping.{judged, RightAdd, RightStrike, RightArc, RightPair, RightDraft, RightLay, moment}
 use Rattle.logs.proofs.Reaching.{reachable}
 use Rattle.logs.proofs.Stepping.{arc_never_both, pair_never_both, add_never_both, strike_never_both, draft_never_both, lay_never_both}
 
@@ -41,23 +36,15 @@ refused_only s gap (lay n across up) e r = lay_never_both s gap n across up e r
 
 -- what is not refused is right
 right : (Right : Answer → Type 0) (Refuses : Refusal → Type 0) (answer : Answer) → Judged Right Refuses answer → ((e : Refusal) → ¬ (answer ≡ refused e)) → Right answer
-right R F done j n = j
-right R F (told t) j n = j
-right R F (paired k) j n = j
-right R F (drew sum places) j n = j
-right R F (refused e) j n = absurd (n e refl)
+right R F answer j n = elim (judged R F answer j) [ inl r ↦ r | inr r ↦ absurd (n r.0 r.1) ]
 
 accepted_only : (s : Shape) (gap : Arcs) (line : Line) (answer : Answer) → Answers s gap line answer → ((e : Refusal) → ¬ (answer ≡ refused e)) → Accepts s gap line
-accepted_only s gap (add dir a b) answer j n = (right (λ r. (r ≡ done) × AcceptsAdd s (Arc gap) dir a b) (RefusesAdd s gap dir a b) answer j n).1
-accepted_only s gap (strike dir a b) answer j n = (right (λ r. (r ≡ done) × AcceptsStrike s (Arc gap) dir a b) (RefusesStrike s gap dir a b) answer j n).1
-accepted_only s gap (arc dir a b) answer j n =
-    let r = right (λ r. (t : Bool) × (r ≡ told t) × Named s dir a × Named s dir b × Decides t (Arc gap dir a b)) (RefusesArc s dir a b) answer j n in (r.2, r.3)
-accepted_only s gap (apart x y) answer j n =
-    let r = right (λ a. (k : Pairing) × (a ≡ paired k) × Named s 1 x × Named s 0 y × Pairs s gap x y k) (RefusesPair s x y) answer j n in (r.2, r.3)
-accepted_only s gap (draft m) answer j n =
-    (right (λ r. (sum : ℕ) × (places : List Spot) × (c : Coordinates) × (r ≡ drew sum places) × AcceptsDraft s gap m × Draft s gap c × HandsOut s c sum places) (RefusesDraft s gap m) answer j n).4
-accepted_only s gap (lay m across up) answer j n =
-    (right (λ r. (sum : ℕ) × (places : List Spot) × (c : Coordinates) × (r ≡ drew sum places) × AcceptsLay s gap m across up × Lay s gap (flow_of s across up) c × HandsOut s c sum places) (RefusesLay s gap m across up) answer j n).4
+accepted_only s gap (add dir a b) answer j n = (right (RightAdd s gap dir a b) (RefusesAdd s gap dir a b) answer j n).1
+accepted_only s gap (strike dir a b) answer j n = (right (RightStrike s gap dir a b) (RefusesStrike s gap dir a b) answer j n).1
+accepted_only s gap (arc dir a b) answer j n = let r = right (RightArc s gap dir a b) (RefusesArc s dir a b) answer j n in (r.2, r.3)
+accepted_only s gap (apart x y) answer j n = let r = right (RightPair s gap x y) (RefusesPair s x y) answer j n in (r.2, r.3)
+accepted_only s gap (draft m) answer j n = (right (RightDraft s gap m) (RefusesDraft s gap m) answer j n).4
+accepted_only s gap (lay m across up) answer j n = (right (RightLay s gap m across up) (RefusesLay s gap m across up) answer j n).4
 
 pub answered_exactly : AnsweredExactly
 answered_exactly = record { refused_only = refused_only; accepted_only = accepted_only }

@@ -110,9 +110,6 @@ module _ (s : Shape) (log : List Line) (gap : Arcs) (steps : OneStepEach (InForc
   pub gap_no_circle : ¬ Contradictory s → ¬ Circle (Arc gap)
   gap_no_circle fine k = no_circle_in_force s log fine (circle_map (Arc gap) (InForce s log) (λ dir a b. (arc_in_force dir a b).0) k)
 
-  pub gap_contradictory : Contradictory s → Circle (Arc gap)
-  gap_contradictory k = circle_map (ShapeArc s) (Arc gap) gap_own k
-
 -- ---- the same arcs said otherwise accept the same
 pub accepts_add_map : (s : Shape) (R S : ℕ → ℕ → ℕ → Type 0) → ((dir a b : ℕ) → S dir a b → R dir a b) → (dir a b : ℕ) → AcceptsAdd s R dir a b → AcceptsAdd s S dir a b
 accepts_add_map s R S f dir a b w =

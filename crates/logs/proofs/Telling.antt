@@ -1,5 +1,5 @@
 -- What is in force, as the log tells: the shape's arcs, and each that was added and not struck since. Assumes nothing.
-use Rattle.std.proofs.Common.{◌≡◌, ℕ, ◌⊎◌, ◌↔◌, List, [], ◌∷◌, ◌++◌, sym, refl, ap, ◌∙◌, subst, inl, inr, arith}
+use Rattle.std.proofs.Common.{◌≡◌, ℕ, ◌⊎◌, ◌↔◌, List, [], ◌∷◌, ◌++◌, sym, refl, ap, ◌∙◌, subst, inl, inr}
 use Rattle.segments.specs.Shapes.{Shape}
 use Rattle.segments.specs.Segments.{ShapeArc}
 use Rattle.logs.specs.Lines.{Line, add, strike, arc, apart, draft, lay}
@@ -7,8 +7,8 @@ use Rattle.logs.specs.Force.{AcceptsAdd, AcceptsStrike, SameArc, InForce, AddedA
 use Rattle.logs.proofs.Stepping.{onto, back, own_in_force}
 
 pub never_empty : (line : Line) (l m : List Line) → ¬ ([] ≡ l ++ (line ∷ m))
-never_empty line [] m f = let z : ◌≡◌ {A = ℕ} 0 1 = cc in omega arith
-never_empty line (x ∷ l) m f = let z : ◌≡◌ {A = ℕ} 0 1 = cc in omega arith
+never_empty line [] m f = cc
+never_empty line (x ∷ l) m f = cc
 
 module _ (s : Shape) where
   -- ---- what is in force is told
@@ -40,16 +40,16 @@ module _ (s : Shape) where
 
   tells : (log : List Line) (dir a b : ℕ) → InForce s log dir a b → ShapeArc s dir a b ⊎ AddedAndKept s log dir a b
   tells [] dir a b r = inl r
-  tells (add d p q ∷ log) dir a b (inl r) = later_line log dir a b (add d p q) (λ e. absurd (let z : ◌≡◌ {A = ℕ} 0 1 = cc in omega arith)) (tells log dir a b r)
+  tells (add d p q ∷ log) dir a b (inl r) = later_line log dir a b (add d p q) (λ e w. cc) (tells log dir a b r)
   tells (add d p q ∷ log) dir a b (inr z) = inr (added log d p q dir a b z.0 z.1)
   tells (strike d p q ∷ log) dir a b r =
       later_line log dir a b (strike d p q)
       (λ e w. let o : SameArc d p q dir a b = ((cc), (cc), (cc)) in r.1 (o, onto (AcceptsStrike s (InForce s log)) (back o) w))
       (tells log dir a b r.0)
-  tells (arc d p q ∷ log) dir a b r = later_line log dir a b (arc d p q) (λ e. absurd (let z : ◌≡◌ {A = ℕ} 0 1 = cc in omega arith)) (tells log dir a b r)
-  tells (apart x y ∷ log) dir a b r = later_line log dir a b (apart x y) (λ e. absurd (let z : ◌≡◌ {A = ℕ} 0 1 = cc in omega arith)) (tells log dir a b r)
-  tells (draft n ∷ log) dir a b r = later_line log dir a b (draft n) (λ e. absurd (let z : ◌≡◌ {A = ℕ} 0 1 = cc in omega arith)) (tells log dir a b r)
-  tells (lay n across up ∷ log) dir a b r = later_line log dir a b (lay n across up) (λ e. absurd (let z : ◌≡◌ {A = ℕ} 0 1 = cc in omega arith)) (tells log dir a b r)
+  tells (arc d p q ∷ log) dir a b r = later_line log dir a b (arc d p q) (λ e w. cc) (tells log dir a b r)
+  tells (apart x y ∷ log) dir a b r = later_line log dir a b (apart x y) (λ e w. cc) (tells log dir a b r)
+  tells (draft n ∷ log) dir a b r = later_line log dir a b (draft n) (λ e w. cc) (tells log dir a b r)
+  tells (lay n across up ∷ log) dir a b r = later_line log dir a b (lay n across up) (λ e w. cc) (tells log dir a b r)
 
   -- ---- what is told is in force
   module _ (earlier : List Line) (dir a b : ℕ) (accepted : AcceptsAdd s (InForce s earlier) dir a b) where

@@ -1,4 +1,5 @@
 pub mod Refusals
+pub mod Pairings
 pub mod Lines
 pub mod Force
 pub mod Refusing

@@ -1,9 +1,10 @@
 // Why a call on a board is refused.
 ghost use Rattle.std.specs.Prelude.{◌≡◌};
-ghost use Rattle.logs.specs.Refusals.{naming, of_arc};
+ghost use Rattle.logs.specs.Refusals.{naming};
 
 use shape::refusal::Naming;
 
+// A direction is a number here and an arc three, as in the definitions that say which values a refusal names: with types of their own these would only be taken apart again.
 #[derive(Clone, Copy, Debug, PartialEq, Eq)]
 pub enum Refusal {
     // a direction above 1
@@ -55,51 +56,39 @@ pub enum Refusal {
     },
 }
 
-impl Refusal {
-    pub fn naming(&self) -> Naming
-        ensures { result ≡ naming self.now }
-    {
-        match self {
-            Refusal::NoDirection => of_arc(6, 0, 0, 0),
-            Refusal::NoSegment { number } => of_arc(7, 0, *number, 0),
-            Refusal::Contradictory => of_arc(8, 0, 0, 0),
+impl From<Refusal> for Naming {
+    ghost from_gives = { λ refusal named. named ≡ naming refusal };
+
+    fn from(refusal: Refusal) -> Naming {
+        match refusal {
+            Refusal::NoDirection => Naming::new(6, 0, 0, 0),
+            Refusal::NoSegment { number } => Naming::new(7, 0, number, 0),
+            Refusal::Contradictory => Naming::new(8, 0, 0, 0),
             Refusal::ClosesCircle {
                 direction,
                 from,
                 to,
-            } => of_arc(9, *direction, *from, *to),
+            } => Naming::new(9, direction, from, to),
             Refusal::NotInForce {
                 direction,
                 from,
                 to,
-            } => of_arc(10, *direction, *from, *to),
+            } => Naming::new(10, direction, from, to),
             Refusal::GivenByShape {
                 direction,
                 from,
                 to,
-            } => of_arc(11, *direction, *from, *to),
-            Refusal::WrongPoints => of_arc(12, 0, 0, 0),
-            Refusal::WrongCells => of_arc(13, 0, 0, 0),
-            Refusal::OpenPair { row, column } => of_arc(14, 0, *row, *column),
+            } => Naming::new(11, direction, from, to),
+            Refusal::WrongPoints => Naming::new(12, 0, 0, 0),
+            Refusal::WrongCells => Naming::new(13, 0, 0, 0),
+            Refusal::OpenPair { row, column } => Naming::new(14, 0, row, column),
             Refusal::FlowOffArcs {
                 direction,
                 from,
                 to,
-            } => of_arc(15, *direction, *from, *to),
-            Refusal::OutOfBalance { direction, segment } => of_arc(16, *direction, *segment, 0),
-            Refusal::NotGreatest { direction } => of_arc(17, *direction, 0, 0),
+            } => Naming::new(15, direction, from, to),
+            Refusal::OutOfBalance { direction, segment } => Naming::new(16, direction, segment, 0),
+            Refusal::NotGreatest { direction } => Naming::new(17, direction, 0, 0),
         }
-    }
-}
-
-// A number with what it names; what is not named is 0.
-fn of_arc(number: usize, direction: usize, first: usize, second: usize) -> Naming
-    ensures { result ≡ of_arc number direction first second }
-{
-    Naming {
-        number,
-        direction,
-        first,
-        second,
     }
 }

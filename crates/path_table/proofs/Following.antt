@@ -1,5 +1,6 @@
 -- The paths follow an arc that comes into force. Assumes nothing.
-use Rattle.std.proofs.Common.{◌≡◌, ℕ, zero, suc, ◌<◌, T, ◌⊎◌, Decides, sym, refl, ap, subst, inl, inr, arith}
+use Rattle.std.proofs.Common.{◌≡◌, ℕ, zero, suc, ◌<◌, T, ◌⊎◌, sym, refl, ap, ◌∙◌, inl, inr, arith}
+use Rattle.std.specs.Bool.{passes}
 use Rattle.walks.specs.Nodes.{Arc}
 use Rattle.drawings.specs.Arcs.{Path, one, more, IsOrReaches}
 use Rattle.drawings.proofs.Carrying.{path_parts}
@@ -7,16 +8,19 @@ use Rattle.drawings.proofs.Climbing.{path_map}
 use Rattle.drawings.proofs.Reaching.{path_on, path_join}
 use Rattle.propagation.specs.Tables.{arc_gaps}
 use Rattle.propagation.specs.declared.arc_table.ArcTable.{ArcTable}
+use Rattle.propagation.proofs.Leading.{true_by}
 use Rattle.path_table.specs.Changes.{Widened}
-use Rattle.path_table.specs.Joined.{joined, PathAlong}
-use Rattle.path_table.proofs.Names.{true_by, holds_by, path_within}
+use Rattle.path_table.specs.Joined.{joined, PathsOf}
+use Rattle.path_table.proofs.Names.{PathAlong, path_within, tells_paths}
 
 through : {S : ℕ → ℕ → Type 0} {x a b y : ℕ} → IsOrReaches S x a → S a b → IsOrReaches S b y → Path S x y
-through {S = S} {b = b} {y = y} (inl e) r after = elim after [ inl f ↦ one (subst (λ t. S t y) (sym e) (subst (S _) f r)) | inr q ↦ subst (λ t. Path S t y) (sym e) (more r q) ]
-through {S = S} {x = x} (inr p) r after = elim after [ inl f ↦ subst (Path S x) f (path_on p r) | inr q ↦ path_join p (more r q) ]
+through (inl e) r (inl f) = rw (e, ← f) (one r)
+through (inl e) r (inr q) = rw e (more r q)
+through (inr p) r (inl f) = rw (← f) (path_on p r)
+through (inr p) r (inr q) = path_join p (more r q)
 
 -- The arc p→q, of nodes, comes to the arcs in force; to the paths come those from p, and what leads to it, to q, and what it leads to.
-module _ (force force' paths paths' : ArcTable) (p q : ℕ) (in_p : p < force.nodes) (in_q : q < force.nodes) (same : paths.nodes ≡ force.nodes) (tells : (a b : ℕ) → Decides (joined paths a b) (PathAlong force a b)) (arcs : Widened force force' (λ u v. (u ≡ p) × (v ≡ q))) (ways : Widened paths paths' (λ u v. ((u ≡ p) ⊎ Arc (arc_gaps paths) u p) × ((v ≡ q) ⊎ Arc (arc_gaps paths) q v))) where
+module _ (force force' paths paths' : ArcTable) (p q : ℕ) (in_p : p < force.nodes) (in_q : q < force.nodes) (was : PathsOf force paths) (arcs : Widened force force' (λ u v. (u ≡ p) × (v ≡ q))) (ways : Widened paths paths' (λ u v. ((u ≡ p) ⊎ Arc (arc_gaps paths) u p) × ((q ≡ v) ⊎ Arc (arc_gaps paths) q v))) where
   stays : (x y : ℕ) → T (joined force x y) → T (joined force' x y)
   stays zero y r = r
   stays (suc i) zero r = r
@@ -31,10 +35,10 @@ module _ (force force' paths paths' : ArcTable) (p q : ℕ) (in_p : p < force.no
   comes = arcs.arcs_come p q in_p in_q (refl, refl)
 
   way_path : (i j : ℕ) → Arc (arc_gaps paths) i j → PathAlong force' (suc i) (suc j)
-  way_path i j r = path_map stays ((tells (suc i) (suc j)).0 (true_by _ r))
+  way_path i j r = path_map stays ((was.told (suc i) (suc j)).0 (true_by _ r))
 
   path_way : (i j : ℕ) → PathAlong force (suc i) (suc j) → Arc (arc_gaps paths) i j
-  path_way i j k = holds_by _ ((tells (suc i) (suc j)).1 k)
+  path_way i j k = passes _ ((was.told (suc i) (suc j)).1 k)
 
   way_tells : (i j : ℕ) → Arc (arc_gaps paths') i j → PathAlong force' (suc i) (suc j)
   way_tells i j r =
@@ -43,7 +47,7 @@ module _ (force force' paths paths' : ArcTable) (p q : ℕ) (in_p : p < force.no
         | inr w ↦ through {S = λ x y. T (joined force' x y)}
             (elim w.0 [ inl e ↦ inl (ap suc e) | inr o ↦ inr (way_path i p o) ])
             comes
-            (elim w.1 [ inl e ↦ inl (ap suc (sym e)) | inr o ↦ inr (way_path q j o) ])
+            (elim w.1 [ inl e ↦ inl (ap suc e) | inr o ↦ inr (way_path q j o) ])
       ]
 
   path_told : (i j : ℕ) → PathAlong force' (suc i) (suc j) → Arc (arc_gaps paths') i j
@@ -54,11 +58,13 @@ module _ (force force' paths paths' : ArcTable) (p q : ℕ) (in_p : p < force.no
         | inl o ↦ ways.arcs_stay i j (path_way i j o)
         | inr m ↦ ways.arcs_come i j (omega (arith, w.0.1)) (omega (arith, w.1.1)) (
           elim m.0 [ inl e ↦ inl (let f : i ≡ p = omega arith in f) | inr o ↦ inr (path_way i p o) ],
-          elim m.1 [ inl e ↦ inl (let f : j ≡ q = omega arith in f) | inr o ↦ inr (path_way q j o) ],
+          elim m.1 [ inl e ↦ inl (let f : q ≡ j = omega arith in f) | inr o ↦ inr (path_way q j o) ],
         )
       ]
 
-  pub paths_follow : (a b : ℕ) → Decides (joined paths' a b) (PathAlong force' a b)
-  paths_follow zero b = (λ e. absurd (holds_by _ e), λ k. absurd (let w = (path_within force' k).0 in omega (arith, w.0)))
-  paths_follow (suc i) zero = (λ e. absurd (holds_by _ e), λ k. absurd (let w = (path_within force' k).1 in omega (arith, w.0)))
-  paths_follow (suc i) (suc j) = (λ e. way_tells i j (holds_by _ e), λ k. true_by _ (path_told i j k))
+  pub paths_follow : PathsOf force' paths'
+  paths_follow =
+      record {
+        nodes = ways.nodes_stay ∙ was.nodes ∙ sym arcs.nodes_stay;
+        told = tells_paths paths' force' (λ i j. (λ e. way_tells i j (passes _ e), λ k. true_by _ (path_told i j k)));
+      }

@@ -1,5 +1,6 @@
 -- Walks over the nodes of a table are paths along its arcs. Assumes nothing.
-use Rattle.std.proofs.Common.{◌≡◌, ℕ, zero, suc, ◌-◌, ◌<◌, T, List, [], ◌∷◌, ◌++◌, length, Decides, sym, refl, subst, arith, length-append}
+use Rattle.std.proofs.Common.{◌≡◌, ℕ, zero, suc, ◌-◌, ◌<◌, T, List, [], ◌∷◌, ◌++◌, length, refl, ◌∙◌, arith, length-append}
+use Rattle.std.specs.Bool.{passes}
 use Rattle.std.proofs.ByRecursion.{All-append}
 use Rattle.walks.specs.Nodes.{Arc, Walk, origin}
 use Rattle.walks.proofs.Circuits.{origin_append, walk_append}
@@ -7,11 +8,12 @@ use Rattle.segments.specs.Shapes.{Within}
 use Rattle.drawings.specs.Arcs.{one, more}
 use Rattle.drawings.proofs.Reaching.{path_on}
 use Rattle.propagation.specs.Subject.{Leads}
+use Rattle.propagation.specs.Keeping.{table_bounds}
 use Rattle.propagation.specs.Tables.{arc_gaps}
 use Rattle.propagation.specs.declared.arc_table.ArcTable.{ArcTable}
 use Rattle.path_table.specs.Changes.{Closed}
-use Rattle.path_table.specs.Joined.{joined, PathAlong}
-use Rattle.path_table.proofs.Names.{holds_by, joined_within, path_within}
+use Rattle.path_table.specs.Joined.{joined, PathsOf}
+use Rattle.path_table.proofs.Names.{PathAlong, joined_within, path_within, tells_paths}
 
 module _ (t : ArcTable) where
   walk_path : (j i : ℕ) (l : List ℕ) → Walk (Arc (arc_gaps t)) j (i ∷ l) → PathAlong t (suc (origin i l)) (suc j)
@@ -23,16 +25,16 @@ module _ (t : ArcTable) where
     where
       go : (l : List ℕ) → Walk (Arc (arc_gaps t)) j l → origin j l ≡ i → 0 < length l → PathAlong t (suc i) (suc j)
       go [] w e m = absurd (omega arith)
-      go (h ∷ l) w e m = subst (λ (x : ℕ). PathAlong t (suc x) (suc j)) e (walk_path j h l w)
+      go (h ∷ l) w e m = rw (← e) (walk_path j h l w)
 
   -- an arc between names, over their nodes
   node_arc : (a b : ℕ) → T (joined t a b) → Arc (arc_gaps t) (a - 1) (b - 1)
   node_arc zero b h = absurd h
   node_arc (suc i) zero h = absurd h
   node_arc (suc i) (suc j) h =
-      let ei : i ≡ suc i - 1 = omega arith in
-      let ej : j ≡ suc j - 1 = omega arith in
-      subst (λ (x : ℕ). Arc (arc_gaps t) x (suc j - 1)) ei (subst (λ (x : ℕ). Arc (arc_gaps t) i x) ej h)
+      let ei : suc i - 1 ≡ i = omega arith in
+      let ej : suc j - 1 ≡ j = omega arith in
+      rw (ei, ej) h
 
   node_below : (a : ℕ) → Within t.nodes a → a - 1 < t.nodes
   node_below a w = omega (arith, w.0, w.1)
@@ -47,7 +49,7 @@ module _ (t : ArcTable) where
         walks = record {
           way = q.way ++ first;
           within = All-append (λ x. x < t.nodes) q.way first q.within (node_below a (joined_within t a m r).0, tt);
-          walk = walk_append (Arc (arc_gaps t)) (b - 1) q.way first q.walk (subst (λ (x : ℕ). Walk (Arc (arc_gaps t)) x first) (sym q.from) (node_arc a m r, tt));
+          walk = walk_append (Arc (arc_gaps t)) (b - 1) q.way first q.walk (rw q.from (node_arc a m r, tt));
           from = origin_append (b - 1) q.way first;
         };
         moves = (let e = length-append q.way first in omega arith);
@@ -57,14 +59,16 @@ module _ (t : ArcTable) where
   path_leads i j p =
       let ei : suc i - 1 ≡ i = omega arith in
       let ej : suc j - 1 ≡ j = omega arith in
-      subst (λ (x : ℕ). Leads t.nodes (arc_gaps t) x j) ei (subst (λ (x : ℕ). Leads t.nodes (arc_gaps t) (suc i - 1) x) ej (nodes_lead p))
+      rw (ei, ej) at (nodes_lead p)
 
--- a table that was closed tells the paths
-pub closed_tells : (t before after : ArcTable) → before.nodes ≡ t.nodes → Closed t.nodes (arc_gaps t) before after → (a b : ℕ) → Decides (joined after a b) (PathAlong t a b)
-closed_tells t before after same closed zero b = (λ e. absurd (holds_by _ e), λ p. absurd (let w = (path_within t p).0 in omega (arith, w.0)))
-closed_tells t before after same closed (suc i) zero = (λ e. absurd (holds_by _ e), λ p. absurd (let w = (path_within t p).1 in omega (arith, w.0)))
-closed_tells t before after same closed (suc i) (suc j) =
-    let stay = closed.nodes_stay in (
-      λ e. let w = joined_within after (suc i) (suc j) (holds_by _ e) in leads_path t i j ((closed.walks i j (omega (arith, w.0.1)) (omega (arith, w.1.1)) (omega (arith, w.0.1)) (omega (arith, w.1.1))).0 e),
-      λ p. let w = path_within t p in (closed.walks i j (omega (arith, w.0.1)) (omega (arith, w.1.1)) (omega (arith, w.0.1)) (omega (arith, w.1.1))).1 (path_leads t i j p),
-    )
+-- a table that was closed has the paths
+pub closed_paths : (t before after : ArcTable) → before.nodes ≡ t.nodes → Closed t.nodes (arc_gaps t) before after → PathsOf t after
+closed_paths t before after same closed =
+    let stay = closed.nodes_stay in
+    record {
+      nodes = stay ∙ same;
+      told = tells_paths after t (λ i j. (
+        λ e. let n = table_bounds.arcs_join_nodes after i j (passes _ e) in leads_path t i j ((closed.walks i j (omega (arith, n.0)) (omega (arith, n.1)) (omega (arith, n.0)) (omega (arith, n.1))).0 e),
+        λ p. let w = path_within t p in (closed.walks i j (omega (arith, w.0.1)) (omega (arith, w.1.1)) (omega (arith, w.0.1)) (omega (arith, w.1.1))).1 (path_leads t i j p),
+      ));
+    }

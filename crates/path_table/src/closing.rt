@@ -6,51 +6,43 @@ ghost use Rattle.path_table.specs.Changes.{Widened};
 
 use propagation::arc_table::ArcTable;
 use propagation::graph::{ConstraintGraph, MOST_NODES};
+use std::array;
 
-// Marks a node, and those with an arc to it.
-pub(crate) fn leading_to(paths: &ArcTable, node: usize) -> [bool; MOST_NODES]
-    ensures { (u : ℕ) → u < 128 → Decides (slice_index_or result u false) ((u ≡ node) ⊎ Arc (arc_gaps paths.now) u node) }
+// Whether two nodes are one, or an arc leads from the first to the second.
+fn is_or_leads(paths: &ArcTable, from: usize, to: usize) -> bool
+    ensures { Decides result ((from ≡ to) ⊎ Arc (arc_gaps paths.now) from to) }
 {
-    let mut marks = [false; MOST_NODES];
-    for from in 0..MOST_NODES {
-        marks[from] = from == node || paths.gap(from, node).is_some();
-    }
-    marks
-}
-
-// Marks a node, and those that it has an arc to.
-pub(crate) fn led_from(paths: &ArcTable, node: usize) -> [bool; MOST_NODES]
-    ensures { (v : ℕ) → v < 128 → Decides (slice_index_or result v false) ((v ≡ node) ⊎ Arc (arc_gaps paths.now) node v) }
-{
-    let mut marks = [false; MOST_NODES];
-    for to in 0..MOST_NODES {
-        marks[to] = to == node || paths.gap(node, to).is_some();
-    }
-    marks
+    from == to || paths.gap(from, to).is_some()
 }
 
 // An arc from a node to each that is marked.
 fn join_row(paths: &mut ArcTable, from: usize, beyond: &[bool; MOST_NODES])
     ensures { Widened paths.old paths.new (λ u v. (u ≡ from) × (slice_index_or beyond.now v false ≡ true)) }
 {
-    for to in 0..MOST_NODES {
-        if beyond[to] {
+    for (to, marked) in beyond.iter().enumerate() {
+        if *marked {
             paths.set(from, to);
         }
     }
 }
 
 // An arc from each node that is marked before to each that is marked beyond.
-pub(crate) fn join_rows(
-    paths: &mut ArcTable,
-    before: &[bool; MOST_NODES],
-    beyond: &[bool; MOST_NODES],
-)
+fn join_rows(paths: &mut ArcTable, before: &[bool; MOST_NODES], beyond: &[bool; MOST_NODES])
     ensures { Widened paths.old paths.new (λ u v. (slice_index_or before.now u false ≡ true) × (slice_index_or beyond.now v false ≡ true)) }
 {
-    for from in 0..MOST_NODES {
-        if before[from] {
+    for (from, marked) in before.iter().enumerate() {
+        if *marked {
             join_row(paths, from, beyond);
         }
     }
+}
+
+// An arc from each node that is the one node or leads to it, to each that is the other or that it leads to.
+pub(crate) fn join_through(paths: &mut ArcTable, from: usize, to: usize)
+    ensures { Widened paths.old paths.new (λ u v. ((u ≡ from) ⊎ Arc (arc_gaps paths.old) u from) × ((to ≡ v) ⊎ Arc (arc_gaps paths.old) to v)) }
+{
+    // The marks are fixed tables: the board asks for no memory.
+    let before: [bool; MOST_NODES] = array::from_fn(|node| is_or_leads(paths, node, from));
+    let beyond: [bool; MOST_NODES] = array::from_fn(|node| is_or_leads(paths, to, node));
+    join_rows(paths, &before, &beyond);
 }

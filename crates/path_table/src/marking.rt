@@ -1,10 +1,9 @@
 // The paths of a table of arcs, by the engine: one run for each node.
-ghost use Rattle.std.specs.Prelude.{◌≡◌, true, length, pos};
-ghost use Rattle.std.specs.Bool.{then_some};
+ghost use Rattle.std.specs.Prelude.{◌≡◌, true, length};
 ghost use Rattle.propagation.specs.Engine.{at};
 ghost use Rattle.propagation.specs.Kinds.{reach_meaning};
 ghost use Rattle.propagation.specs.Subject.{Leads};
-ghost use Rattle.propagation.specs.Tables.{arc_gaps, Put};
+ghost use Rattle.propagation.specs.Tables.{arc_gaps};
 ghost use Rattle.path_table.specs.Changes.{RowPut, Closed};
 
 use propagation::arc_table::ArcTable;
@@ -13,22 +12,12 @@ use propagation::label::Label;
 use propagation::reach::Reach;
 use propagation::reaching::reached_from;
 
-fn put(table: &mut ArcTable, from: usize, to: usize, arc: bool)
-    ensures { Put table.old table.new from to (then_some arc (pos 1)) }
-{
-    if arc {
-        table.set(from, to);
-    } else {
-        table.clear(from, to);
-    }
-}
-
 // The arcs out of a node become the marks.
 fn write_row(paths: &mut ArcTable, from: usize, reached: &[Reach])
     ensures { RowPut paths.old paths.new from (length reached.now) (λ v. (at reach_meaning reached.now v).yes ≡ true) }
 {
-    for to in 0..reached.len() {
-        put(paths, from, to, reached[to].yes);
+    for (to, reach) in reached.iter().enumerate() {
+        paths.put(from, to, reach.yes);
     }
 }
 
@@ -37,8 +26,9 @@ fn write_row_of(force: &ArcTable, paths: &mut ArcTable, from: usize)
     ensures { RowPut paths.old paths.new from force.now.nodes (λ v. Leads force.now.nodes (arc_gaps force.now) from v) }
 {
     let nodes = force.nodes();
+    // A fixed table: the board asks for no memory.
     let mut reached = [Reach::NONE; MOST_NODES];
-    let marked = &mut reached[0..nodes];
+    let marked = &mut reached[..nodes];
     if reached_from(force, from, marked).is_ok() {
         write_row(paths, from, marked);
     }

@@ -4,7 +4,7 @@ use Rattle.std.proofs.lemmas.Bool.{lt-ltb}
 use Rattle.std.specs.Option.{option_or, option_map}
 
 pub leads_back : (own back : Option ℤ) (flow : ℕ) (g : ℤ) → is_some own ≡ false → flow ≢ 0 → Some g ≡ back → Some (neg_ℤ g) ≡ option_or own (cond (ltb 0 flow) (option_map neg_ℤ back) None)
-leads_back (Some h) back flow g none some arc = absurd (let y : ◌≡◌ {A = ℕ} 0 1 = cc in omega arith)
+leads_back (Some h) back flow g none some arc = absurd cc
 leads_back None back flow g none some arc =
     let above : 0 < flow = omega arith in
     let test = lt-ltb 0 flow above in

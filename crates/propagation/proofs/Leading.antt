@@ -1,7 +1,7 @@
 -- Marks on the nodes that arcs lead to, carried on, are on the nodes that walks of one or more arcs lead to. Assumes nothing.
 use Rattle.std.proofs.Common.{◌≡◌, ℕ, ◌<◌, ◌≤◌, Bool, true, false, T, ◌↔◌, List, [], ◌∷◌, ◌++◌, length, is_some, Ok, Decides, sym, refl, ap, ◌∙◌, subst, inl, inr, arith, length-append}
 use Rattle.std.proofs.ByRecursion.{All-push}
-use Rattle.std.proofs.lemmas.List.{get_or_append_left, get_or_past}
+use Rattle.std.proofs.lemmas.List.{get_or_past}
 use Rattle.std.proofs.lemmas.Bool.{both_ways, cases_lt}
 use Rattle.walks.specs.Nodes.{Below, Gaps, Arc, Walk, origin, WalksShorten}
 use Rattle.walks.specs.Rounds.{round}
@@ -19,7 +19,7 @@ use Rattle.propagation.proofs.Running.{ran_through}
 pub every_walk_shortens : (n : ℕ) → WalksShorten n n
 every_walk_shortens n = walks_shorten n n n (long_walks_split n n n (distinct_few n) (omega arith)) (omega arith)
 
-true_by : (t : Bool) → T t → t ≡ true
+pub true_by : (t : Bool) → T t → t ≡ true
 true_by true h = refl
 true_by false h = absurd h
 
@@ -28,10 +28,6 @@ but_first : (v : ℕ) (l : List ℕ) → 0 < length l → (p : List ℕ) × (l �
 but_first v [] h = absurd (omega arith)
 but_first v (u ∷ []) h = ([], refl)
 but_first v (u ∷ w ∷ l) h = let r = but_first u (w ∷ l) (omega arith) in (u ∷ r.0, ap (λ q. u ∷ q) r.1)
-
--- what the front of a memory marks, the whole marks
-pub decides_front : {P : Type 0} (front rest : List Reach) (v : ℕ) → v < length front → Decides (at reach_meaning front v).yes P → Decides (at reach_meaning (front ++ rest) v).yes P
-decides_front {P = P} front rest v h d = subst (λ (x : Reach). Decides x.yes P) (sym (get_or_append_left front rest reach_meaning.none v h)) d
 
 module _ (n : ℕ) (gaps : Gaps) (joined : (a b : ℕ) → Arc gaps a b → (a < n) × (b < n)) (a : ℕ) where
   leads_to_node : (b : ℕ) → Leads n gaps a b → b < n
@@ -84,8 +80,8 @@ module _ (n : ℕ) (gaps : Gaps) (joined : (a b : ℕ) → Arc gaps a b → (a <
   labels_mark_leads given start first second settled fits heads ran =
       record {
         runs_exactly_when_the_memory_fits = (λ _. fits, λ _. refl);
-        refusal_is_of_the_memory = λ e i. absurd (let y : ◌≡◌ {A = ℕ} 0 1 = cc in omega arith);
-        wrong_memory_leaves_all = λ i. absurd (let y : ◌≡◌ {A = ℕ} 0 1 = cc in omega arith);
+        refusal_is_of_the_memory = λ e i. absurd cc;
+        wrong_memory_leaves_all = λ i. absurd cc;
         marks_what_is_led_to = λ _ b. elim (cases_lt b n) [
           | inl h ↦ labels_decide_leads start first second settled heads ran b h
           | inr out ↦ (

@@ -16,7 +16,8 @@ use Rattle.propagation.specs.declared.place.Place.{Place}
 use Rattle.propagation.specs.declared.refusal.Refusal.{Refusal}
 use Rattle.propagation.specs.Held.{held_round, quiet_along}
 
-least_same : (n : ℕ) (gaps : Gaps) (x y : ℕ → ℤ) → ((v : ℕ) → v < n → y v ≡ x v) → Least n gaps x → Least n gaps y
+-- coordinates that agree with the least ones are the least
+pub least_same : (n : ℕ) (gaps : Gaps) (x y : ℕ → ℤ) → ((v : ℕ) → v < n → y v ≡ x v) → Least n gaps x → Least n gaps y
 least_same n gaps x y same l =
     record {
       keeps = λ a b g ha hb e. let i = same a ha in let j = same b hb in let k = l.keeps a b g ha hb e in omega (arith, ints);
@@ -26,11 +27,11 @@ least_same n gaps x y same l =
 
 ok_of : (r : Result Bool Refusal) → is_ok r ≡ true → (s : Bool) × (r ≡ Ok s)
 ok_of (Ok s) e = (s, refl)
-ok_of (Err x) e = absurd (let y : ◌≡◌ {A = ℕ} 0 1 = cc in omega arith)
+ok_of (Err x) e = absurd cc
 
 not_both : (r : Result Bool Refusal) → is_ok r ≡ true → is_err r ≡ true → ⊥
-not_both (Ok s) e f = let y : ◌≡◌ {A = ℕ} 0 1 = cc in omega arith
-not_both (Err x) e f = let y : ◌≡◌ {A = ℕ} 0 1 = cc in omega arith
+not_both (Ok s) e f = cc
+not_both (Err x) e f = cc
 
 module _ (n : ℕ) (gaps : Gaps) (few : n ≤ 128) (small : EveryGap n gaps (Within 100)) (start : List Place) (at_zero : (v : ℕ) → v < n → (at place_meaning start v).at ≡ Some (pos 0)) where
   round_is : (k v : ℕ) → k ≤ 128 → v < n → (round place_meaning n gaps (at place_meaning start) k v).at ≡ round place_labels n gaps zeros k v
@@ -61,7 +62,7 @@ module _ (n : ℕ) (gaps : Gaps) (few : n ≤ 128) (small : EveryGap n gaps (Wit
         least_same n gaps (place n gaps ran.earlier) (coordinate first) (λ v h. coordinate_is v h ∙ ap (λ o. unwrap_or o (pos 0)) (s v h)) (settled_is_least n gaps ran.earlier s)
 
     unquiet : settled ≡ false → ¬ Quiet place_meaning n gaps (at place_meaning start) ran.earlier 1
-    unquiet e q = let t = ran.settled_exactly_when_unchanged.1 q in let y : ◌≡◌ {A = ℕ} 0 1 = cc in omega arith
+    unquiet e q = let t = ran.settled_exactly_when_unchanged.1 q in cc
 
     all_rounds : settled ≡ false → ran.earlier + 1 ≡ n
     all_rounds e = elim ran.stops_at_no_change_or_after_as_many_rounds_as_nodes [ inl q ↦ absurd (unquiet e q) | inr i ↦ i ]

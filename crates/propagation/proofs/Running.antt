@@ -4,7 +4,7 @@ use Rattle.std.proofs.lemmas.List.{ext_get_or}
 use Rattle.walks.specs.Nodes.{Gaps}
 use Rattle.walks.specs.Rounds.{Labels, Lawful, pulled, round, JoinOfWalks, Quiet}
 use Rattle.walks.proofs.Labels.{round_next, quiet_once_stays, rounds_join_walks}
-use Rattle.propagation.specs.Engine.{at, Same, Ran, Propagates}
+use Rattle.propagation.specs.Engine.{at, Ran, Propagates}
 
 module _ {L : Type 0} (ops : Labels L) (n : ℕ) (gaps : Gaps) (start : List L) where
   -- k rounds were run, and each changed a label
@@ -12,9 +12,6 @@ module _ {L : Type 0} (ops : Labels L) (n : ℕ) (gaps : Gaps) (start : List L) 
     pub newest_is : (v : ℕ) → v < n → at ops newest v ≡ round ops n gaps (at ops start) k v
     pub before_is : (j v : ℕ) → j + 1 ≡ k → v < n → at ops before v ≡ round ops n gaps (at ops start) j v
     pub changed : (j : ℕ) → j < k → ¬ Quiet ops n gaps (at ops start) j 1
-
-  pub reached_none : (spare : List L) → Reached 0 start spare
-  reached_none spare = record { newest_is = λ v h. refl; before_is = λ j v e h. absurd (omega arith); changed = λ j h. absurd (omega arith) }
 
   -- from what the rounds made, and what stopped them, all that the contract says of a run
   module _ (w : Lawful ops) (k : ℕ) (first second : List L) (settled : Bool) (within : k + 1 ≤ n) (changed : (j : ℕ) → j < k → ¬ Quiet ops n gaps (at ops start) j 1) (stops : Quiet ops n gaps (at ops start) k 1 ⊎ (k + 1 ≡ n)) (tells : Decides settled (Quiet ops n gaps (at ops start) k 1)) (sizes : (length first ≡ n) × (length second ≡ n)) (first_is : (v : ℕ) → v < n → at ops first v ≡ round ops n gaps (at ops start) (k + 1) v) (second_is : (v : ℕ) → v < n → at ops second v ≡ round ops n gaps (at ops start) k v) where
@@ -43,8 +40,8 @@ module _ {L : Type 0} (ops : Labels L) (n : ℕ) (gaps : Gaps) (start : List L) 
           settled_labels_join_all_walks = λ e j v h l. joins j v (at ops first v) (later e j v h l);
         }
 
-  -- one round more, which made the new labels from the old ones and says whether they are the same
-  module _ (k : ℕ) {newest before : List L} (old new : List L) (so_far : Reached k newest before) (copied : old ≡ newest) (size : length old ≡ n) (pulls : (v : ℕ) → v < length old → at ops new v ≡ pulled ops gaps (at ops old) v (length old)) (same : Bool) (tells : Decides same (Same ops old new)) where
+  -- one round more, which made the new labels from the old ones, and whether they are equal
+  module _ (k : ℕ) {newest before : List L} (old new : List L) (so_far : Reached k newest before) (copied : old ≡ newest) (size : length old ≡ n) (size_too : length new ≡ n) (pulls : (v : ℕ) → v < length old → at ops new v ≡ pulled ops gaps (at ops old) v (length old)) (same : Bool) (tells : Decides same (new ≡ old)) where
     pub old_is : (v : ℕ) → v < n → at ops old v ≡ round ops n gaps (at ops start) k v
     old_is v h = ap (λ l. at ops l v) copied ∙ so_far.newest_is v h
 
@@ -53,8 +50,8 @@ module _ {L : Type 0} (ops : Labels L) (n : ℕ) (gaps : Gaps) (start : List L) 
 
     pub tells_quiet : Decides same (Quiet ops n gaps (at ops start) k 1)
     tells_quiet = (
-      λ e v h. sym (new_is v h) ∙ tells.0 e v (omega arith) ∙ old_is v h,
-      λ q. tells.1 (λ v h. let l : v < n = omega arith in new_is v l ∙ q v l ∙ sym (old_is v l)),
+      λ e v h. sym (new_is v h) ∙ ap (λ l. at ops l v) (tells.0 e) ∙ old_is v h,
+      λ q. tells.1 (ext_get_or ops.none new old (size_too ∙ sym size) (λ v h. let l : v < n = omega (arith, size_too) in new_is v l ∙ q v l ∙ sym (old_is v l))),
     )
 
     pub reached_more : same ≡ false → Reached (k + 1) new old
@@ -62,12 +59,12 @@ module _ {L : Type 0} (ops : Labels L) (n : ℕ) (gaps : Gaps) (start : List L) 
         record {
           newest_is = new_is;
           before_is = λ j v i h. old_is v h ∙ ap (λ m. round ops n gaps (at ops start) m v) (let m : k ≡ j = omega arith in m);
-          changed = below_more (λ j. ¬ Quiet ops n gaps (at ops start) j 1) k so_far.changed (λ q. let z : true ≡ false = sym (tells_quiet.1 q) ∙ e in let y : ◌≡◌ {A = ℕ} 0 1 = cc in omega arith);
+          changed = below_more (λ j. ¬ Quiet ops n gaps (at ops start) j 1) k so_far.changed (λ q. let z : true ≡ false = sym (tells_quiet.1 q) ∙ e in cc);
         }
 
     -- a round that changed no label was the last
-    pub ran_settled : Lawful ops → k < n → length new ≡ n → same ≡ true → Ran ops n gaps start new old true
-    ran_settled w within size_too e =
+    pub ran_settled : Lawful ops → k < n → same ≡ true → Ran ops n gaps start new old true
+    ran_settled w within e =
         let q = tells_quiet.0 e in
         ran w k new old true (omega arith) so_far.changed (inl q) (λ _. q, λ _. refl) (size_too, size) new_is old_is
 
@@ -78,7 +75,7 @@ module _ {L : Type 0} (ops : Labels L) (n : ℕ) (gaps : Gaps) (start : List L) 
       let k : ℕ = n - 1 in
       let e : k + 1 ≡ n = omega arith in
       let here = r.changed k (omega arith) in
-      ran w k newest before false (omega arith) (λ j h. r.changed j (omega arith)) (inr e) (λ i. absurd (let y : ◌≡◌ {A = ℕ} 0 1 = cc in omega arith), λ q. absurd (here q)) sizes
+      ran w k newest before false (omega arith) (λ j h. r.changed j (omega arith)) (inr e) (λ i. absurd cc, λ q. absurd (here q)) sizes
       (λ v h. r.newest_is v h ∙ ap (λ m. round ops n gaps (at ops start) m v) (sym e)) (λ v h. r.before_is k v e h)
 
   -- to stop early changes no label: the first memory holds what as many rounds as nodes make
@@ -97,7 +94,7 @@ module _ {L : Type 0} (ops : Labels L) (n : ℕ) (gaps : Gaps) (start : List L) 
   propagated spare {first = first} {second = second} settled fits fits_too r =
       record {
         runs_exactly_when_memories_fit = (λ _. (fits, fits_too), λ _. refl);
-        refusal_is_of_the_memory = λ e i. absurd (let y : ◌≡◌ {A = ℕ} 0 1 = cc in omega arith);
-        wrong_memory_leaves_all = λ i. absurd (let y : ◌≡◌ {A = ℕ} 0 1 = cc in omega arith);
+        refusal_is_of_the_memory = λ e i. absurd cc;
+        wrong_memory_leaves_all = λ i. absurd cc;
         runs = λ s i. subst (Ran ops n gaps start first second) (let j : settled ≡ s = cc in j) r;
       }

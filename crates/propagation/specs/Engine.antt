@@ -9,10 +9,6 @@ use Rattle.propagation.specs.declared.refusal.Refusal.TheVariants.{WrongMemory}
 abbrev pub at : {L : Type 0} → Labels L → List L → ℕ → L
 at ops memory v = slice_index_or memory v ops.none
 
--- two memories have the same labels
-abbrev pub Same : {L : Type 0} → Labels L → List L → List L → Type 0
-Same ops old new = (v : ℕ) → v < length old → at ops new v ≡ at ops old v
-
 -- from `start`, some rounds and then a last one were run; `first` holds what that one made, and `second` what it was made from
 pub record Ran {L : Type 0} (ops : Labels L) (n : ℕ) (gaps : Gaps) (start first second : List L) (settled : Bool) : Type 0 where
   -- how many rounds came before the last one

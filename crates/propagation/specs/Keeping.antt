@@ -1,7 +1,7 @@
 -- The graphs of the code keep to the bounds of every graph. Assumes nothing.
 -- Each proof is the value of a ghost member.
 use Rattle.std.specs.Prelude.{◌≡◌, ℕ, ◌+◌, ◌*◌, Bool, true, false, cond, ◌&&◌, T, ◌⊎◌, List, ℤ, pos, neg_ℤ, is_some, Some, None, Option, nat_lt, slice_index_or}
-use Rattle.std.proofs.Common.{inl, inr, arith, ltb→lt}
+use Rattle.std.proofs.Common.{subst, inl, inr, arith, ltb→lt}
 use Rattle.std.proofs.lemmas.Int.{ints}
 use Rattle.std.specs.Option.{option_or, option_map}
 use Rattle.std.specs.Bool.{then_some}
@@ -12,25 +12,28 @@ use Rattle.propagation.specs.Graphs.{Within, Bounds}
 use Rattle.propagation.specs.Layers.{cell}
 use Rattle.propagation.specs.Tables.{arc_gaps}
 
+-- ---- one gap wherever a test holds
+-- the first two tests hold where there is a gap
+pub first_two : (p q r : Bool) (g : ℤ) → T (is_some (then_some (p && (q && r)) g)) → T p × T q
+first_two true true true g t = (tt, tt)
+first_two true true false g t = absurd t
+first_two true false r g t = absurd t
+first_two false q r g t = absurd t
+
+-- the gap that is there is that one
+pub own_gap : (t : Bool) (h g : ℤ) → then_some t h ≡ Some g → Within 100 h → Within 100 g
+own_gap true h g e w = subst (Within 100) (let i : h ≡ g = cc in i) w
+own_gap false h g e w = absurd cc
+
 -- ---- a table of arcs
-both_nodes : (p q r : Bool) → T (is_some (then_some (p && (q && r)) (pos 1))) → T p × T q
-both_nodes true true true t = (tt, tt)
-both_nodes true true false t = absurd t
-both_nodes true false r t = absurd t
-both_nodes false q r t = absurd t
-
-gap_is_one : (t : Bool) (g : ℤ) → then_some t (pos 1) ≡ Some g → Within 100 g
-gap_is_one true g e = let i : pos 1 ≡ g = cc in (omega (arith, ints), omega (arith, ints))
-gap_is_one false g e = absurd (let y : ◌≡◌ {A = ℕ} 0 1 = cc in omega arith)
-
 pub table_bounds : Bounds (λ t. t.nodes) arc_gaps
 table_bounds =
     record {
       one_or_more = λ t. t.one_or_more;
       at_most_128 = λ t. t.at_most_128;
-      gaps_within_100 = λ t a b g ha hb e. gap_is_one (nat_lt a t.nodes && (nat_lt b t.nodes && slice_index_or t.arcs (a * 128 + b) false)) g e;
+      gaps_within_100 = λ t a b g ha hb e. own_gap (nat_lt a t.nodes && (nat_lt b t.nodes && slice_index_or t.arcs (a * 128 + b) false)) (pos 1) g e (omega (arith, ints), omega (arith, ints));
       arcs_join_nodes = λ t a b arc.
-          let i = both_nodes (nat_lt a t.nodes) (nat_lt b t.nodes) (slice_index_or t.arcs (a * 128 + b) false) arc in (ltb→lt a t.nodes i.0, ltb→lt b t.nodes i.1);
+          let i = first_two (nat_lt a t.nodes) (nat_lt b t.nodes) (slice_index_or t.arcs (a * 128 + b) false) (pos 1) arc in (ltb→lt a t.nodes i.0, ltb→lt b t.nodes i.1);
     }
 
 -- ---- a flow layer over any graph

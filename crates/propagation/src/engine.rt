@@ -1,7 +1,7 @@
 // Rounds of labels: in each, every node sends its label along every arc.
-ghost use Rattle.std.specs.Prelude.{◌≡◌, ℕ, ◌<◌, length, Decides};
+ghost use Rattle.std.specs.Prelude.{◌≡◌, ℕ, ◌<◌, length};
 ghost use Rattle.walks.specs.Rounds.{pulled};
-ghost use Rattle.propagation.specs.Engine.{at, Same, Propagates};
+ghost use Rattle.propagation.specs.Engine.{at, Propagates};
 
 use crate::graph::ConstraintGraph;
 use crate::label::Label;
@@ -14,28 +14,23 @@ fn gathered<G: ConstraintGraph, L: Label>(graph: &G, old: &[L], to: usize) -> L
     ensures { result ≡ pulled L.Label.meaning (G.ConstraintGraph.gaps graph.now) (at L.Label.meaning old.now) to (length old.now) }
 {
     let mut label = old[to];
-    for from in 0..old.len() {
+    for (from, sent) in old.iter().enumerate() {
         if let Some(gap) = graph.gap(from, to) {
-            label = label.join(old[from].carry(gap));
+            label = label.join(sent.carry(gap));
         }
     }
     label
 }
 
-// One round, from the old labels to the new ones; says whether they are the same.
-fn round<G: ConstraintGraph, L: Label>(graph: &G, old: &[L], new: &mut [L]) -> bool
+// One round, from the old labels to the new ones.
+fn round<G: ConstraintGraph, L: Label>(graph: &G, old: &[L], new: &mut [L])
     requires one_label_a_node { length old.now ≡ G.ConstraintGraph.size graph.now }
     requires as_many_new { length new.old ≡ length old.now }
-    ensures pulls { (v : ℕ) → v < length old.now → at L.Label.meaning new.new v ≡ pulled L.Label.meaning (G.ConstraintGraph.gaps graph.now) (at L.Label.meaning old.now) v (length old.now) }
-    ensures tells { Decides result (Same L.Label.meaning old.now new.new) }
+    ensures { (v : ℕ) → v < length old.now → at L.Label.meaning new.new v ≡ pulled L.Label.meaning (G.ConstraintGraph.gaps graph.now) (at L.Label.meaning old.now) v (length old.now) }
 {
-    let mut same = true;
-    for node in 0..old.len() {
-        let label = gathered(graph, old, node);
-        same &= label.alike(old[node]);
-        new[node] = label;
+    for (node, label) in new.iter_mut().enumerate() {
+        *label = gathered(graph, old, node);
     }
-    same
 }
 
 // Rounds until one changes no label, and as many as there are nodes at the most; says whether the last changed none.
@@ -51,9 +46,11 @@ pub fn propagate<G: ConstraintGraph, L: Label>(
     if newest.len() != nodes || before.len() != nodes {
         return Err(Refusal::WrongMemory);
     }
+    // A loop, and no `any`: each round changes both memories, which a closure would hide.
     for _earlier in 0..nodes {
         before.copy_from_slice(newest);
-        if round(graph, before, newest) {
+        round(graph, before, newest);
+        if *newest == *before {
             return Ok(true);
         }
     }

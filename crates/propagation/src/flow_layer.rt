@@ -30,11 +30,7 @@ impl<'g, 'c, G: ConstraintGraph> FlowLayer<'g, 'c, G> {
         if from >= nodes || to >= nodes {
             return 0;
         }
-        let place = from * nodes + to;
-        if place >= self.cells.len() {
-            return 0;
-        }
-        self.cells[place]
+        self.cells.get(from * nodes + to).copied().unwrap_or(0)
     }
 }
 

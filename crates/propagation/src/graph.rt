@@ -12,13 +12,12 @@ pub trait ConstraintGraph {
     // Where an arc leads from one node to another, its gap.
     ghost gaps: { Self → Gaps };
 
-    // What every graph keeps to: each kind of graph gives a proof of it.
-    ghost bounds: { Bounds size gaps };
-
     fn nodes(&self) -> usize
         ensures { result ≡ size self.now };
 
     // None where a number is no node.
     fn gap(&self, from: usize, to: usize) -> Option<i8>
         ensures { result ≡ gaps self.now from to };
+
+    ghost bounds: { Bounds size gaps };
 }

@@ -1,7 +1,4 @@
 // The longest places from 0: how far the gaps push each node up.
-ghost use Rattle.std.specs.Prelude.{◌≡◌, ℕ, ◌<◌, length, pos, Some};
-ghost use Rattle.propagation.specs.Kinds.{place_meaning};
-ghost use Rattle.propagation.specs.Engine.{at};
 ghost use Rattle.propagation.specs.Subject.{LongestPlaces};
 
 use crate::engine::propagate;
@@ -18,15 +15,8 @@ pub fn longest_places<G: ConstraintGraph>(graph: &G, places: &mut [Place]) -> Re
     if places.len() != nodes {
         return Err(Refusal::WrongMemory);
     }
-    start_at_zero(places);
+    places.fill(Place::new(0));
+    // fixed memory: the board asks for none
     let mut before = [Place::NONE; MOST_NODES];
     propagate(graph, places, &mut before[0..nodes])
-}
-
-fn start_at_zero(places: &mut [Place])
-    ensures { (v : ℕ) → v < length places.old → (at place_meaning places.new v).at ≡ Some (pos 0) }
-{
-    for place in places.iter_mut() {
-        *place = Place::new(0);
-    }
 }

@@ -1,9 +1,10 @@
 // The label of a node's place on a line: joined to the greater one, and moved by each gap, up to the ends of the line.
-ghost use Rattle.std.specs.Prelude.{◌≡◌, ◌+ℤ◌, Some, refl};
+ghost use Rattle.std.specs.Prelude.{◌≡◌, ◌+ℤ◌, Some, None, refl};
 ghost use Rattle.walks.specs.Places.{clamp, clamped_labels};
 ghost use Rattle.propagation.specs.Kinds.{place_meaning};
 ghost use Rattle.walks.proofs.Ends.{clamped_lawful};
 ghost use Rattle.propagation.specs.Held.{held_lawful};
+ghost use Rattle.std.proofs.Common.{rules};
 
 use crate::label::Label;
 
@@ -45,13 +46,15 @@ fn moved(coordinate: i16, gap: i8) -> i16
 impl Label for Place {
     const NONE: Place = Place { at: None };
 
+    ghost NONE = { record { at = None } };
+
     ghost meaning = { place_meaning };
 
     ghost lawful = { held_lawful (λ p. p.at) (λ o. record { at = o }) (clamped_labels 30000) (λ _. refl) (λ _. refl) (clamped_lawful 30000) };
 
-    fn nothing() -> Place {
-        Self::NONE
-    }
+    ghost none_is_meant = { Prim.search rules };
+
+    ghost equal_is_same = { Prim.search rules };
 
     fn join(self, other: Place) -> Place {
         match (self.at, other.at) {
@@ -68,9 +71,5 @@ impl Label for Place {
         Place {
             at: Some(moved(a, gap)),
         }
-    }
-
-    fn alike(self, other: Place) -> bool {
-        self == other
     }
 }

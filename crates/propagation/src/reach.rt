@@ -1,4 +1,5 @@
 // The label of a node that is reached, or is not: carried as it is over every gap.
+ghost use Rattle.std.specs.Prelude.{false};
 ghost use Rattle.propagation.specs.Kinds.{reach_meaning};
 ghost use Rattle.std.proofs.Common.{rules};
 
@@ -12,13 +13,15 @@ pub struct Reach {
 impl Label for Reach {
     const NONE: Reach = Reach { yes: false };
 
+    ghost NONE = { record { yes = false } };
+
     ghost meaning = { reach_meaning };
 
     ghost lawful = { Prim.search rules };
 
-    fn nothing() -> Reach {
-        Self::NONE
-    }
+    ghost none_is_meant = { Prim.search rules };
+
+    ghost equal_is_same = { Prim.search rules };
 
     fn join(self, other: Reach) -> Reach {
         Reach {
@@ -28,9 +31,5 @@ impl Label for Reach {
 
     fn carry(self, _gap: i8) -> Reach {
         self
-    }
-
-    fn alike(self, other: Reach) -> bool {
-        other.yes == self.yes
     }
 }

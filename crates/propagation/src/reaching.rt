@@ -18,35 +18,10 @@ pub fn reaches<G: ConstraintGraph>(graph: &G, from: usize, to: usize) -> bool
     if to >= nodes {
         return false;
     }
-    let mut newest = [Reach::NONE; MOST_NODES];
-    let mut before = [Reach::NONE; MOST_NODES];
-    found(
-        graph,
-        from,
-        to,
-        &mut newest[0..nodes],
-        &mut before[0..nodes],
-    )
-}
-
-// The same, in two memories: it starts from the nodes that an arc leads to.
-fn found<G: ConstraintGraph>(
-    graph: &G,
-    from: usize,
-    to: usize,
-    newest: &mut [Reach],
-    before: &mut [Reach],
-) -> bool
-    requires newest_fits { length newest.old ≡ G.ConstraintGraph.size graph.now }
-    requires before_fits { length before.old ≡ G.ConstraintGraph.size graph.now }
-    requires to_is_a_node { to < G.ConstraintGraph.size graph.now }
-    ensures { Decides result (Leads (G.ConstraintGraph.size graph.now) (G.ConstraintGraph.gaps graph.now) from to) }
-{
-    mark_heads(graph, from, newest);
-    match propagate(graph, newest, before) {
-        Ok(_) => newest[to].yes,
-        Err(_) => false,
-    }
+    // fixed memory: the board asks for none
+    let mut memory = [Reach::NONE; MOST_NODES];
+    let reached = &mut memory[0..nodes];
+    reached_from(graph, from, reached).is_ok() && reached[to].yes
 }
 
 // Marks every node that a walk of one or more arcs leads to from a node.
@@ -62,6 +37,7 @@ pub fn reached_from<G: ConstraintGraph>(
         return Err(Refusal::WrongMemory);
     }
     mark_heads(graph, from, reached);
+    // fixed memory: the board asks for none
     let mut before = [Reach::NONE; MOST_NODES];
     propagate(graph, reached, &mut before[0..nodes])?;
     Ok(())
@@ -71,9 +47,7 @@ pub fn reached_from<G: ConstraintGraph>(
 fn mark_heads<G: ConstraintGraph>(graph: &G, from: usize, reached: &mut [Reach])
     ensures { (v : ℕ) → v < length reached.old → (at reach_meaning reached.new v).yes ≡ is_some (G.ConstraintGraph.gaps graph.now from v) }
 {
-    for node in 0..reached.len() {
-        reached[node] = Reach {
-            yes: graph.gap(from, node).is_some(),
-        };
+    for (node, mark) in reached.iter_mut().enumerate() {
+        mark.yes = graph.gap(from, node).is_some();
     }
 }

@@ -8,12 +8,12 @@ pub enum Refusal {
     WrongMemory,
 }
 
-impl Refusal {
-    // The number under which the rules list it.
-    pub fn number(&self) -> usize
-        ensures { result ≡ numbered self.now }
-    {
-        match self {
+// The number under which the rules list it.
+impl From<Refusal> for usize {
+    ghost from_gives = { λ refusal n. n ≡ numbered refusal };
+
+    fn from(refusal: Refusal) -> usize {
+        match refusal {
             Refusal::WrongMemory => 12,
         }
     }

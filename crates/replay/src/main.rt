@@ -5,39 +5,36 @@ mod case;
 mod playing;
 
 use calls::command::Command;
-use calls::commands::{Commands, Step};
+use calls::commands::{Commands, Numbered, ReadError};
 use case::Case;
 use playing::{play, unreadable};
 use std::io;
 use std::process::ExitCode;
 
+fn unread(error: ReadError) -> anyhow::Error {
+    match error {
+        ReadError::Unreadable { line } => unreadable(line, "it is no call in the format"),
+        ReadError::Memory(error) => error.into(),
+    }
+}
+
 // Plays each case when the next begins, and the last at the end.
 fn run(rt: &HostRuntime) -> anyhow::Result<()> {
     let text = io::read_to_string(rt.alloc(), rt.stdin())?;
-    let mut commands = Commands::new(text.as_str());
     let mut current: Option<Case> = None;
-    for at in 1..usize::MAX {
-        match commands.step(rt.alloc())? {
-            Step::Read(
-                Command::Case {
-                    number,
-                    shape,
-                    turns,
-                },
-            ) => {
-                let next = Case::new(rt.alloc(), at, number, shape, turns);
+    for read in Commands::new(rt.alloc(), text.as_str()) {
+        let Numbered { line, command } = read.map_err(unread)?;
+        match command {
+            Command::Case(opening) => {
+                let next = Case::new(rt.alloc(), line, opening);
                 if let Some(case) = current.replace(next) {
                     play(rt, &case)?;
                 }
             }
-            Step::Read(Command::Call(line)) => match &mut current {
-                Some(case) => case.calls.push(line)?,
-                None => return Err(unreadable(at, "no case stands before it")),
+            Command::Call(call) => match &mut current {
+                Some(case) => case.calls.push(call)?,
+                None => return Err(unreadable(line, "no case stands before it")),
             },
-            Step::Unreadable { line } => {
-                return Err(unreadable(line, "it is no call in the format"));
-            }
-            Step::End => break,
         }
     }
     match current {

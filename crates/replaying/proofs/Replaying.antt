@@ -1,7 +1,6 @@
 -- A replay's answers, one line after the other, keep the whole promise. Assumes nothing.
-use Rattle.std.proofs.Common.{◌≡◌, ℕ, ◌+◌, ◌<◌, List, [], ◌∷◌, ◌++◌, reverse, length, get_or, take, IfOk, Result, sym, refl, ap, ◌∙◌, subst, below_more}
+use Rattle.std.proofs.Common.{◌≡◌, ℕ, ◌+◌, ◌<◌, List, [], ◌∷◌, ◌++◌, reverse, length, get_or, take, sym, ap, ◌∙◌, subst, below_more}
 use Rattle.std.proofs.lemmas.List.{length-map, length_push, map_push, get_or-map, get_or_push, get_or_append_left, take_more, reverse-append}
-use Rattle.std.proofs.lemmas.Result.{IfOk-weaker}
 use Rattle.segments.specs.Shapes.{Shape, Lawful}
 use Rattle.logs.specs.Lines.{Line, draft}
 use Rattle.logs.specs.Answers.{Answer, done, Answers, AnsweredAfter}
@@ -15,15 +14,14 @@ use Rattle.replaying.specs.Replaying.{lines_of, answers_of, Performs}
 use Rattle.board.specs.declared.board.Board.{Board}
 
 -- ---- one line
-pub performs_as : (before after : Board) {line line' : Line} {answer answer' : Answer} → line ≡ line' → answer ≡ answer' → Performs before line' answer' after → Performs before line answer after
-performs_as before after {line} {line'} {answer} {answer'} e f p s log stands = (
-  subst (λ l. Answers s (gap_of before) l answer) (sym e) (subst (Answers s (gap_of before) line') (sym f) (p s log stands).0),
-  subst (λ l. Stands s (l ∷ log) after) (sym e) (p s log stands).1,
+pub performs_as : (before : Board) {after after' : Board} {line line' : Line} {answer answer' : Answer} → after ≡ after' → line ≡ line' → answer ≡ answer'
+    → ((s : Shape) (log : List Line) → Stands s log before → Answers s (gap_of before) line' answer')
+    → ((s : Shape) (log : List Line) → Stands s log before → Stands s (line' ∷ log) after')
+    → Performs before line answer after
+performs_as before {after} {after'} {line} {line'} {answer} {answer'} d e f answered stood s log stands = (
+  subst (λ l. Answers s (gap_of before) l answer) (sym e) (subst (Answers s (gap_of before) line') (sym f) (answered s log stands)),
+  subst (λ b. Stands s (line ∷ log) b) (sym d) (subst (λ l. Stands s (l ∷ log) after') (sym e) (stood s log stands)),
 )
-
-pub made_as : {E : Type 0} (r : Result AnswerValue E) (before after : Board) {line line' : Line} → line ≡ line' → IfOk r (λ a. Performs before line' (answer_of a) after) → IfOk r (λ a. Performs before line (answer_of a) after)
-made_as r before after {line} {line'} e h =
-    IfOk-weaker r (λ a. Performs before line' (answer_of a) after) (λ a. Performs before line (answer_of a) after) (λ a. performs_as before after e refl) h
 
 -- ---- the lines so far
 -- of the first k lines: as many answers, each by what the lines before it left in force, and the board stands for these lines

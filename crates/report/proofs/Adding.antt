@@ -1,26 +1,15 @@
 -- A text that grows by one line after the other. Assumes nothing.
-use Rattle.std.proofs.Common.{◌≡◌, ℕ, suc, ◌+◌, ◌-◌, ◌≤◌, List, [], ◌++◌, sym, ap, ◌∙◌, append_assoc, arith}
+use Rattle.std.proofs.Common.{◌≡◌, ℕ, suc, ◌-◌, ◌≤◌, List, Some, Option, Ok, ◌++◌, ap, ◌∙◌, sym, refl, arith}
+use Rattle.std.specs.declared.fmt.Formatter.{Formatter}
+use Rattle.std.specs.Fmt.{HasWritten, DisplaysOnOk}
+use Rattle.std.proofs.Output.{has_written_append, has_written_of_eq, displays_on_ok_of_eq}
 use Rattle.report.specs.Parts.{each}
 
 -- the line of k, after the lines before it
-pub each_more : (f : ℕ → List ℕ) (k : ℕ) → 1 ≤ k → (start old new : List ℕ) → old ≡ start ++ each (k - 1) f → new ≡ old ++ f k → new ≡ start ++ each (k + 1 - 1) f
-each_more f k h start old new before pushed =
+pub each_more : {W : Type 0} (took : W → List ℕ → W → Type 0) (text : ℕ → List ℕ) (f g h : Formatter W) (k n : ℕ) → n ≡ k → 1 ≤ k → HasWritten took f (each (k - 1) text) g → (o : Option (List ℕ)) → o ≡ Some (text k) → DisplaysOnOk took g (Ok tt) o h → HasWritten took f (each n text) h
+each_more took text f g h k n same some before o told line =
     let j = k - 1 in
-    let now_k : k + 1 - 1 ≡ suc j = omega arith in
-    let at : f k ≡ f (suc j) = ap f (let e : k ≡ suc j = omega arith in e) in
-    pushed
-    ∙ ap (λ (x : List ℕ). x ++ f k) before
-    ∙ append_assoc start (each j f) (f k)
-    ∙ ap (λ (x : List ℕ). start ++ (each j f ++ x)) at
-    ∙ ap (λ (n : ℕ). start ++ each n f) (sym now_k)
-
-pub each_all : (f : ℕ → List ℕ) (n k : ℕ) → k + 1 - 1 ≡ n → (start new : List ℕ) → new ≡ start ++ each (k + 1 - 1) f → new ≡ start ++ each n f
-each_all f n k e start new h = h ∙ ap (λ (m : ℕ). start ++ each m f) e
-
--- four parts, one after the other, from an empty text
-pub four_parts : (a b c d t₀ t₁ t₂ t₃ t₄ : List ℕ) → t₀ ≡ [] → t₁ ≡ t₀ ++ a → t₂ ≡ t₁ ++ b → t₃ ≡ t₂ ++ c → t₄ ≡ t₃ ++ d → t₄ ≡ a ++ (b ++ (c ++ d))
-four_parts a b c d t₀ t₁ t₂ t₃ t₄ e₀ e₁ e₂ e₃ e₄ =
-    let f₁ : t₁ ≡ a = e₁ ∙ ap (λ (x : List ℕ). x ++ a) e₀ in
-    let f₂ : t₂ ≡ a ++ b = e₂ ∙ ap (λ (x : List ℕ). x ++ b) f₁ in
-    let f₃ : t₃ ≡ (a ++ b) ++ c = e₃ ∙ ap (λ (x : List ℕ). x ++ c) f₂ in
-    e₄ ∙ ap (λ (x : List ℕ). x ++ d) f₃ ∙ simp append_assoc
+    let at : k ≡ suc j = omega (arith, some) in
+    let upto : n ≡ suc j = omega arith in
+    let all : each j text ++ text k ≡ each n text = ap (λ i. each j text ++ text i) at ∙ sym (ap (λ i. each i text) upto) in
+    has_written_of_eq took f _ _ h all (has_written_append took f _ g _ h before (displays_on_ok_of_eq took g h (Ok tt) o (Some (text k)) told line before.plain refl))

@@ -5,10 +5,13 @@ use Rattle.segments.specs.Segments.{row, column}
 use Rattle.constraints.specs.Least.{LeastOver, HasCircle}
 use Rattle.report.specs.Parts.{each}
 
+-- a point and its two coordinates
+abbrev pub place_line : ℕ → ℕ → ℕ → List ℕ
+place_line v x y = codes "point " ++ (decimal v ++ (codes " at " ++ (decimal x ++ (codes " " ++ (decimal y ++ codes "\n")))))
+
 -- a point with the coordinates of its column and of its row, each held at its name less 1
 abbrev pub point_line : Shape → List ℕ → List ℕ → ℕ → List ℕ
-point_line s xs ys v =
-    codes "point " ++ (decimal v ++ (codes " at " ++ (decimal (slice_index xs (column s v - 1)) ++ (codes " " ++ (decimal (slice_index ys (row s v - 1)) ++ codes "\n")))))
+point_line s xs ys v = place_line v (slice_index xs (column s v - 1)) (slice_index ys (row s v - 1))
 
 abbrev pub point_lines : Shape → List ℕ → List ℕ → List ℕ
 point_lines s xs ys = each s.points (point_line s xs ys)

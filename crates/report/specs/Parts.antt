@@ -1,9 +1,7 @@
 -- The whole text on a shape. Assumes nothing.
-use Rattle.std.specs.Prelude.{ℕ, zero, suc, cond, List, [], ◌++◌, Some, None, string_bytes, Option, String, ◌==◌}
+use Rattle.std.specs.Prelude.{ℕ, zero, suc, cond, List, [], ◌++◌, Some, None, Option, ◌==◌}
 use Rattle.segments.specs.Shapes.{Shape}
 use Rattle.segments.specs.Segments.{segment}
-use Rattle.report.specs.declared.part.Part.{Part}
-use Rattle.report.specs.declared.part.Part.TheVariants.{Segments, Arcs}
 use Rattle.report.specs.Texts.{segment_line, arc_line}
 
 -- f 1 to f n, one after the other
@@ -11,22 +9,28 @@ abbrev pub each : ℕ → (ℕ → List ℕ) → List ℕ
 each zero f = []
 each (suc n) f = each n f ++ f (suc n)
 
--- a text, or no byte
-abbrev pub bytes_or_none : {A : Type 0} → Option (String A) → List ℕ
-bytes_or_none None = []
-bytes_or_none (Some t) = string_bytes t
+-- a line's text, or no byte where there is no line
+abbrev pub line_or_none : {A : Type 0} → (A → Option (List ℕ)) → Option A → Option (List ℕ)
+line_or_none text None = Some []
+line_or_none text (Some line) = text line
 
--- the line of the segment that a number names, or of the arc whose wire begins at that point, if there is one
-abbrev pub part_line : Part → Shape → ℕ → ℕ → List ℕ
-part_line Segments s dir a = cond (segment s dir a == a) (segment_line s dir a) []
-part_line Arcs s dir v = cond (s.next dir v == 0) [] (arc_line s dir v)
+-- the line of the segment that a number names, if there is one
+abbrev pub named_line : Shape → ℕ → ℕ → List ℕ
+named_line s dir a = cond (segment s dir a == a) (segment_line s dir a) []
 
-abbrev pub part_lines : Part → Shape → ℕ → List ℕ
-part_lines part s dir = each s.points (part_line part s dir)
+-- the line of the arc whose wire begins at a point, if there is one
+abbrev pub begun_line : Shape → ℕ → ℕ → List ℕ
+begun_line s dir v = cond (s.next dir v == 0) [] (arc_line s dir v)
+
+abbrev pub segment_lines : Shape → ℕ → List ℕ
+segment_lines s dir = each s.points (named_line s dir)
+
+abbrev pub arc_lines : Shape → ℕ → List ℕ
+arc_lines s dir = each s.points (begun_line s dir)
 
 -- the segments of one direction and of another, and then the arcs of the other and of the one
 abbrev pub parts_text : Shape → ℕ → ℕ → List ℕ
-parts_text s one other = part_lines Segments s one ++ (part_lines Segments s other ++ (part_lines Arcs s other ++ part_lines Arcs s one))
+parts_text s one other = segment_lines s one ++ (segment_lines s other ++ (arc_lines s other ++ arc_lines s one))
 
 -- rows, columns, arcs across, arcs up
 abbrev pub shape_text : Shape → List ℕ

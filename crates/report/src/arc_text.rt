@@ -1,36 +1,48 @@
 // The arc of a wire as a line of text.
-ghost use Rattle.std.specs.Prelude.{◌≡◌, IfOk, string_bytes, MatchOption};
+ghost use Rattle.std.specs.Prelude.{◌≡◌, List, Some, MatchOption};
 ghost use Rattle.segments.specs.Segments.{Wire};
-ghost use Rattle.report.specs.Texts.{direction_word, arc_line};
+ghost use Rattle.report.specs.Texts.{arc_line};
+ghost use Rattle.report.specs.Lines.{arc_text};
 
-use shape::ends::own_arc;
-use shape::source::{ACROSS, ShapeSource};
-use std::alloc::{AllocError, Global};
+use shape::direction::Direction;
+use shape::ends::{Arc, own_arc};
+use shape::source::ShapeSource;
+use std::fmt;
 
-fn direction_word(direction: usize) -> &'static str
-    ensures { result.now ≡ direction_word direction }
-{
-    if direction == ACROSS { "across" } else { "up" }
+// An arc, and the wire that gives it.
+#[derive(Clone, Copy)]
+pub struct ArcLine {
+    direction: Direction,
+    arc: Arc,
+    point: usize,
+    next: usize,
 }
 
 // The line of the arc that the wire from a point gives; none where no wire of that direction begins there.
-pub fn arc_line<S: ShapeSource>(
-    heap: Global,
-    source: &S,
-    direction: usize,
-    point: usize,
-) -> Result<Option<String>, AllocError>
-    ensures { IfOk result (λ o. MatchOption o (Wire (S.ShapeSource.shape source.now) direction point → ⊥) (λ t. Wire (S.ShapeSource.shape source.now) direction point × (string_bytes t ≡ arc_line (S.ShapeSource.shape source.now) direction point))) }
+pub fn arc_line<S: ShapeSource>(source: &S, direction: usize, point: usize) -> Option<ArcLine>
+    ensures { MatchOption result (Wire (S.ShapeSource.shape source.now) direction point → ⊥) (λ line. Wire (S.ShapeSource.shape source.now) direction point × (arc_text line ≡ arc_line (S.ShapeSource.shape source.now) direction point)) }
 {
-    let Some(arc) = own_arc(source, direction, point) else {
-        return Ok(None);
-    };
-    let Some(next) = source.neighbour(point, direction) else {
-        return Ok(None);
-    };
-    let word = direction_word(direction);
-    let from = arc.from;
-    let to = arc.to;
-    let line = format!(in heap; "{word} {from} -> {to}: wire {point} {next}\n")?;
-    Ok(Some(line))
+    let direction = Direction::try_from(direction).ok()?;
+    let arc = own_arc(source, usize::from(direction), point)?;
+    let next = source.beside(point, direction.ahead())?;
+    Some(ArcLine {
+        direction,
+        arc,
+        point,
+        next,
+    })
+}
+
+impl fmt::Display for ArcLine {
+    ghost output = { λ line. Some (arc_text line) };
+
+    fn fmt<W: fmt::Write>(&self, f: &mut fmt::Formatter<W>) -> fmt::Result {
+        let ArcLine {
+            direction,
+            arc: Arc { from, to },
+            point,
+            next,
+        } = *self;
+        writeln!(f, "{direction} {from} -> {to}: wire {point} {next}")
+    }
 }

@@ -1,11 +1,12 @@
 // What a shape file's bytes come to as text.
-ghost use Rattle.std.specs.Prelude.{◌≡◌, IfOk, string_bytes, Decides};
+ghost use Rattle.std.specs.Prelude.{◌≡◌, IfOk, string_bytes};
+ghost use Rattle.std.specs.Fn.{FnOnceReturnsAtMut};
 ghost use Rattle.shape.specs.Formats.Format.{shape_record, old_sheet};
 ghost use Rattle.report.specs.Files.{BeginsWithO, FileText, WholeText, OutcomeText};
 
 use crate::place_text::least_text;
-use crate::refusal_text::shape_refusal_line;
-use crate::shape_text::shape_text;
+use crate::refusal_text::RefusalLine;
+use crate::shape_text::ShapeText;
 use shape::old_sheet::OldSheet;
 use shape::record::ShapeRecord;
 use shape::refusal::Refusal;
@@ -16,48 +17,23 @@ use std::alloc::{AllocError, Global};
 fn whole_text<S: ShapeSource>(heap: Global, source: &S) -> Result<String, AllocError>
     ensures { IfOk result (λ t. WholeText (S.ShapeSource.shape source.now) (string_bytes t)) }
 {
-    let mut text = shape_text(heap, source)?;
-    let least = least_text(heap, source)?;
-    text.push_str(least.as_str())?;
-    Ok(text)
+    let shape = ShapeText { source };
+    let least = least_text(source);
+    format!(in heap; "{shape}{least}")
 }
 
-// The text on a source that was read, or the line of the refusal.
-fn outcome_text<S: ShapeSource>(
+// The text on a source that is filled by reading, or the line of the refusal.
+fn outcome_text<S: ShapeSource + Drop, R: FnOnce(&mut S) -> Result<(), Refusal>>(
     heap: Global,
-    outcome: Result<(), Refusal>,
-    source: &S,
+    mut source: S,
+    read: R,
 ) -> Result<String, AllocError>
-    ensures { IfOk result (λ t. OutcomeText outcome (S.ShapeSource.shape source.now) (string_bytes t)) }
+    requires { R.IsAlwaysCallable read }
+    ensures { (outcome : _) × (filled : S) × FnOnceReturnsAtMut R.FnOnce read source outcome filled × IfOk result (λ t. OutcomeText outcome (S.ShapeSource.shape filled) (string_bytes t)) }
 {
-    match outcome {
-        Ok(()) => whole_text(heap, source),
-        Err(refusal) => shape_refusal_line(heap, &refusal),
-    }
-}
-
-fn old_sheet_text(heap: Global, file: &[u8]) -> Result<String, AllocError>
-    ensures { IfOk result (λ t. FileText old_sheet file.now (string_bytes t)) }
-{
-    let mut sheet = OldSheet::new();
-    let outcome = sheet.read(file);
-    outcome_text(heap, outcome, &sheet)
-}
-
-fn record_text(heap: Global, file: &[u8]) -> Result<String, AllocError>
-    ensures { IfOk result (λ t. FileText shape_record file.now (string_bytes t)) }
-{
-    let mut record = ShapeRecord::new();
-    let outcome = record.read(file);
-    outcome_text(heap, outcome, &record)
-}
-
-fn begins_with_o(file: &[u8]) -> bool
-    ensures { Decides result (BeginsWithO file.now) }
-{
-    match file {
-        [b'O', ..] => true,
-        _ => false,
+    match read(&mut source) {
+        Ok(()) => whole_text(heap, &source),
+        Err(refusal) => RefusalLine { refusal }.to_string(heap),
     }
 }
 
@@ -66,9 +42,9 @@ pub fn file_text(heap: Global, file: &[u8]) -> Result<String, AllocError>
     ensures an_old_sheet { BeginsWithO file.now → IfOk result (λ t. FileText old_sheet file.now (string_bytes t)) }
     ensures any_other { (BeginsWithO file.now → ⊥) → IfOk result (λ t. FileText shape_record file.now (string_bytes t)) }
 {
-    if begins_with_o(file) {
-        old_sheet_text(heap, file)
+    if file.first() == Some(&b'O') {
+        outcome_text(heap, OldSheet::new(), |sheet| sheet.read(file))
     } else {
-        record_text(heap, file)
+        outcome_text(heap, ShapeRecord::new(), |record| record.read(file))
     }
 }

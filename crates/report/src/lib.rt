@@ -3,7 +3,7 @@
 
 pub mod arc_text;
 pub mod file_text;
-pub mod part;
+mod lines;
 pub mod place_text;
 pub mod refusal_text;
 pub mod segment_text;

@@ -1,6 +1,9 @@
 // The names and records of the segments of a shape.
 ghost use Rattle.std.specs.Prelude.{◌≤◌};
 
+use shape::by_direction::ByDirection;
+use shape::source::MOST_POINTS;
+
 mod asking;
 mod filling;
 
@@ -13,11 +16,17 @@ pub struct Segment {
     pub far_ends: usize,
 }
 
-// For each direction 128 places, one for each point: the name of its segment, and the record of a segment with that name.
+// What a point has in a direction: the name of its segment, and the record of a segment that the point names.
+#[derive(Clone, Copy)]
+struct Entry {
+    name: usize,
+    segment: Segment,
+}
+
+// For each direction 128 entries, one for each point; fixed, since a table asks for no memory.
 #[derive(Clone, Copy)]
 pub struct SegmentTable {
     points: usize,
-    names: [usize; 256],
-    records: [Segment; 256],
+    entries: ByDirection<[Entry; MOST_POINTS]>,
     ghost few: { points ≤ 128 },
 }

@@ -1,20 +1,39 @@
 -- Going through the points in order, to name the lowest at fault. Assumes nothing.
-use Rattle.std.proofs.Common.{◌≡◌, ℕ, ◌+◌, ◌<◌, ◌≤◌, Bool, Decides, subst, inl, inr, arith}
-use Rattle.std.proofs.lemmas.Bool.{cases_lt, cases_eq}
-use Rattle.shape.specs.Formats.{Nowhere}
+use Rattle.std.proofs.Common.{◌≡◌, ℕ, ◌≤◌, Bool, true, false, Some, None, Option, Decides, sym, refl, subst, inl, inr, arith}
+use Rattle.std.proofs.lemmas.Bool.{cases_eq, false≢true}
+use Rattle.std.proofs.lemmas.Bool.Decides.{not_from_Decides}
+use Rattle.segments.specs.Shapes.{Within}
+use Rattle.shape.specs.declared.direction.Direction.{Direction}
+use Rattle.shape.specs.declared.direction.Direction.TheVariants.{Across, Up}
+use Rattle.shape.specs.Checks.{FindsFirst, FindsDirection}
+use Rattle.shape.specs.Directions.{direction_number, direction_low}
+use Rattle.shape.specs.Formats.{Lowest, Nowhere}
+
+-- the direction with a number
+numbered : (d : ℕ) → d ≤ 1 → (direction : Direction) × (direction_number direction ≡ d)
+numbered d h = elim (cases_eq d 0) [ inl z ↦ (Across, sym z) | inr z ↦ (Up, omega arith) ]
 
 module _ (Fault : ℕ → Type 0) where
-  -- one point more is without fault
-  pub passed_more : (v : ℕ) → ((u : ℕ) → 1 ≤ u → u < v → ¬ Fault u) → ¬ Fault v → (u : ℕ) → 1 ≤ u → u < v + 1 → ¬ Fault u
-  passed_more v before here u low high =
-      elim (cases_lt u v) [ inl h ↦ before u low h | inr h ↦ λ f. here (subst Fault (let e : u ≡ v = omega arith in e) f) ]
+  -- what the first point that a test passes tells of the fault that it decides
+  module _ (n m : ℕ) (same : m ≡ n) {Tests : ℕ → Bool → Type 0} {o : Option ℕ} (finds : FindsFirst m Tests o) (decides : (v : ℕ) (r : Bool) → Tests v r → Decides r (Fault v)) where
+    pub lowest_fault : (v : ℕ) → o ≡ Some v → Lowest n Fault v
+    lowest_fault v is =
+        let h = finds.first v is in
+        record {
+          point = subst (λ (k : ℕ). Within k v) same h.0;
+          fault = (decides v true h.1).0 refl;
+          first = λ u low high. not_from_Decides false (decides u false (h.2 u low high)) refl;
+        }
 
-  pub passed_all : (n v : ℕ) → n < v → ((u : ℕ) → 1 ≤ u → u < v → ¬ Fault u) → Nowhere n Fault
-  passed_all n v h before u p = before u p.0 (omega (arith, p.1))
+    pub no_fault : o ≡ None → Nowhere n Fault
+    no_fault is v p = not_from_Decides false (decides v false (finds.none is v (subst (λ (k : ℕ). Within k v) (sym same) p))) refl
 
-  -- a fault in one of two directions
-  pub either_direction : (r : Bool) → ¬ Fault 0 → Decides r (Fault 1) → Decides r ((d : ℕ) × (d ≤ 1) × Fault d)
-  either_direction r none one = (
-    λ e. (1, omega arith, one.0 e),
-    λ t. elim (cases_eq t.0 0) [ inl z ↦ absurd (none (subst Fault z t.2)) | inr z ↦ one.1 (subst Fault (let e : t.0 ≡ 1 = omega (arith, t.1) in e) t.2) ],
+  -- a fault in one of the directions
+  pub either_direction : {Tests : Direction → Bool → Type 0} (r : Bool) → FindsDirection Tests r → ((d : Direction) (b : Bool) → Tests d b → Decides b (Fault (direction_number d))) → Decides r ((d : ℕ) × (d ≤ 1) × Fault d)
+  either_direction true finds decides = (λ e. let t = finds.some refl in (direction_number t.0, direction_low t.0, (decides t.0 true t.1).0 refl), λ f. refl)
+  either_direction false finds decides = (
+    λ e. absurd (false≢true e),
+    λ f.
+        let d = numbered f.0 f.1 in
+        absurd (not_from_Decides false (decides d.0 false (finds.none refl d.0)) refl (subst Fault (sym d.1) f.2)),
   )

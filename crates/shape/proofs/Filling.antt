@@ -1,13 +1,13 @@
 -- Filling a table of neighbours wire by wire. Assumes nothing.
-use Rattle.std.proofs.Common.{◌≡◌, ℕ, suc, ◌+◌, ◌-◌, ◌*◌, ◌<◌, ◌≤◌, true, false, ◌≢◌, ◌↔◌, get_or, replicate, is_some, Some, None, Option, sym, refl, ap, ◌∙◌, subst, inl, inr, arith}
+use Rattle.std.proofs.Common.{◌≡◌, ℕ, suc, ◌+◌, ◌-◌, ◌*◌, ◌<◌, ◌≤◌, ◌≢◌, ◌↔◌, List, [], get_or, replicate, sym, refl, ap, ◌∙◌, subst, inl, inr, arith}
 use native.Mathlib.Decide.{ℕ_discrete}
 use Rattle.std.proofs.lemmas.List.{get_or-replicate, get_or_past, length-replicate}
-use Rattle.std.proofs.lemmas.Bool.{cases_lt, true≢false, false≢true}
+use Rattle.std.proofs.lemmas.Bool.{cases_lt}
 use Rattle.std.proofs.lemmas.Bool.Decides.{nat_tests}
 use Rattle.segments.specs.Shapes.{Lawful, Within, steps}
 use Rattle.segments.proofs.Forward.{lawful_by_forward}
 use Rattle.shape.specs.declared.links.Links.{Links}
-use Rattle.shape.specs.Tables.{Told, cell, of_links, Filled}
+use Rattle.shape.specs.Tables.{cell, of_links, Filled}
 
 -- a fresh table holds its one value everywhere
 pub get_d_fresh : {X : Type 0} (d : X) (n i : ℕ) → get_or (replicate n d) i d ≡ d
@@ -15,6 +15,16 @@ get_d_fresh d n i =
     elim (cases_lt i n) [
       | inl h ↦ get_or-replicate n i d d h
       | inr h ↦ get_or_past (replicate n d) i d (let e = length-replicate n d in omega arith)
+    ]
+
+-- and so does a fresh table of rows
+pub fresh_rows : (rows n d i : ℕ) → (let none : ℕ = 0 in get_or (get_or (replicate rows (replicate n none)) d []) i none ≡ none)
+fresh_rows rows n d i =
+    let none : ℕ = 0 in
+    elim (cases_lt d rows) [
+      | inl h ↦ ap (λ (row : List ℕ). get_or row i 0) (get_or-replicate rows d (replicate n none) [] h) ∙ get_d_fresh 0 n i
+      | inr h ↦
+          ap (λ (row : List ℕ). get_or row i 0) (get_or_past (replicate rows (replicate n none)) d [] (let e = length-replicate rows (replicate n none) in omega arith)) ∙ get_or_past [] i 0 (omega arith)
     ]
 
 -- ---- what a table answers
@@ -34,15 +44,6 @@ module _ (l : Links) (d v : ℕ) where
 
 -- ---- one wire more
 module _ (R : ℕ → ℕ → ℕ → Type 0) (n : ℕ) where
-  pub filled_none : (l : Links) → l.points ≡ n → ((d v : ℕ) → cell l d v ≡ 0) → Filled R n 0 l
-  filled_none l p z = record {
-    points = p;
-    forward = λ d u h w k. absurd (omega arith);
-    empty = λ d u h w k. z d u;
-    inside = λ d u h w. let e = z d u in omega arith;
-    opposite = λ d u w h pu pw. (λ e. absurd (let f = z d u in omega (arith, pw.0)), λ e. absurd (let f = z (d + 2) w in omega (arith, pu.0)));
-  }
-
   module _ (l : Links) (i dir v : ℕ) (F : Filled R n i l) (at : i ≡ (v - 1) * 2 + dir) (hd : dir ≤ 1) (pv : Within n v) where
     same_wire : (d u : ℕ) → d ≤ 1 → Within n u → (u - 1) * 2 + d ≡ i → (d ≡ dir) × (u ≡ v)
     same_wire d u h p e = (omega (arith, p.0, pv.0), omega (arith, p.0, pv.0))
@@ -63,15 +64,30 @@ module _ (R : ℕ → ℕ → ℕ → Type 0) (n : ℕ) where
       opposite = F.opposite;
     }
 
+    -- no wire of the table leads to where the next wire does, where no two lead to one point
+    pub filled_free : ((u w : ℕ) → Within n u → Within n w → R dir v w → R dir u w → u ≡ v) → (w : ℕ) → Within n w → R dir v w → cell l (dir + 2) w ≡ 0
+    filled_free apart w pw r =
+        elim (ℕ_discrete (cell l (dir + 2) w) 0) [
+          | yes e ↦ e
+          | no e ↦
+              let u = cell l (dir + 2) w in
+              let pu : Within n u = (omega (arith, e), F.inside (dir + 2) w (omega arith) pw) in
+              let on = (F.opposite dir u w hd pu pw).1 refl in
+              absurd (elim (cases_lt ((u - 1) * 2 + dir) i) [
+                | inl m ↦ let same = apart u w pu pw r (subst (λ (k : ℕ). R dir u k) on (F.forward dir u hd pu m)) in omega arith
+                | inr m ↦ let none = F.empty dir u hd pu m in omega (arith, pw.0)
+              ])
+        ]
+
     -- a wire from v to w, which none leads to yet
-    module _ (w : ℕ) (pw : Within n w) (few : n ≤ 128) (free : cell l (dir + 2) w ≡ 0) (r : R dir v w) (l' : Links) (points : l'.points ≡ l.points) (there : cell l' dir v ≡ w) (back : cell l' (dir + 2) w ≡ v) (others : (d u : ℕ) → 1 ≤ u → u ≤ 128 → ((d ≡ dir) × (u ≡ v) → ⊥) → ((d ≡ dir + 2) × (u ≡ w) → ⊥) → cell l' d u ≡ cell l d u) where
+    module _ (w : ℕ) (pw : Within n w) (free : cell l (dir + 2) w ≡ 0) (r : R dir v w) (l' : Links) (points : l'.points ≡ l.points) (there : cell l' dir v ≡ w) (back : cell l' (dir + 2) w ≡ v) (others : (d u : ℕ) → 1 ≤ u → ((d ≡ dir) × (u ≡ v) → ⊥) → ((d ≡ dir + 2) × (u ≡ w) → ⊥) → cell l' d u ≡ cell l d u) where
       -- another cell of the first two sides stays
       stays : (d u : ℕ) → d ≤ 1 → Within n u → ((d ≡ dir) × (u ≡ v) → ⊥) → cell l' d u ≡ cell l d u
-      stays d u h p other = others d u p.0 (omega (arith, p.1)) other (λ e. omega (arith, e.0))
+      stays d u h p other = others d u p.0 other (λ e. omega (arith, e.0))
 
       -- another cell of the last two sides stays
       stays_back : (d u : ℕ) → Within n u → ((d ≡ dir) × (u ≡ w) → ⊥) → cell l' (d + 2) u ≡ cell l (d + 2) u
-      stays_back d u p other = others (d + 2) u p.0 (omega (arith, p.1)) (λ e. omega (arith, e.0)) (λ e. other (omega (arith, e.0), e.1))
+      stays_back d u p other = others (d + 2) u p.0 (λ e. omega (arith, e.0)) (λ e. other (omega (arith, e.0), e.1))
 
       this : (d u : ℕ) → Dec ((d ≡ dir) × (u ≡ v))
       this d u = elim (ℕ_discrete d dir) [ no a ↦ no (λ e. a e.0) | yes a ↦ elim (ℕ_discrete u v) [ no b ↦ no (λ e. b e.1) | yes b ↦ yes (a, b) ] ]
@@ -98,10 +114,10 @@ module _ (R : ℕ → ℕ → ℕ → Type 0) (n : ℕ) where
           elim (this d u) [
             | yes e ↦ omega (arith, cell_there d u e, pw.1)
             | no o ↦ elim (ℕ_discrete d (dir + 2)) [
-              | no a ↦ omega (arith, others d u p.0 (omega (arith, p.1)) o (λ e. a e.0), F.inside d u h p)
+              | no a ↦ omega (arith, others d u p.0 o (λ e. a e.0), F.inside d u h p)
               | yes a ↦ elim (ℕ_discrete u w) [
                 | yes b ↦ omega (arith, cell_back d u (a, b), pv.1)
-                | no b ↦ omega (arith, others d u p.0 (omega (arith, p.1)) o (λ e. b e.1), F.inside d u h p)
+                | no b ↦ omega (arith, others d u p.0 o (λ e. b e.1), F.inside d u h p)
               ]
             ]
           ]
@@ -182,11 +198,12 @@ module _ (R : ℕ → ℕ → ℕ → Type 0) (n : ℕ) (l : Links) (F : Filled 
   filled_lawful onward =
       lawful_by_forward (of_links l) (λ d v h. (next_side l d v h, next_point l d v h)) to_points opposite (omega (arith, F.points)) (omega (arith, F.points)) onward
 
--- ---- what an answer tells of the number behind it
-pub told_some : (w : ℕ) (o : Option ℕ) → Told w o → is_some o ≡ true → 1 ≤ w
-told_some w None t e = absurd (false≢true e)
-told_some w (Some v) t e = t.1
-
-pub told_none : (w : ℕ) (o : Option ℕ) → Told w o → is_some o ≡ false → w ≡ 0
-told_none w None t e = t
-told_none w (Some v) t e = absurd (true≢false e)
+-- the same table, where the relation says less
+pub filled_weaker : {R : ℕ → ℕ → ℕ → Type 0} (Q : ℕ → ℕ → ℕ → Type 0) (n i : ℕ) (l : Links) → Filled R n i l → ((d v w : ℕ) → d ≤ 1 → Within n v → R d v w → Q d v w) → Filled Q n i l
+filled_weaker Q n i l F less = record {
+  points = F.points;
+  forward = λ d u h p k. less d u _ h p (F.forward d u h p k);
+  empty = F.empty;
+  inside = F.inside;
+  opposite = F.opposite;
+}

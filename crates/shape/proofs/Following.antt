@@ -1,5 +1,8 @@
 -- One step along a chain, as a source tells it. Assumes nothing.
-use Rattle.std.proofs.Common.{◌≡◌, ℕ, ◌<◌, ◌≤◌, Some, sym, ap, ◌∙◌, subst, arith}
+use Rattle.std.proofs.Common.{◌≡◌, ℕ, ◌<◌, ◌≤◌, Bool, true, false, Some, Decides, sym, refl, ap, ◌∙◌, subst, arith}
+use native.Mathlib.Decide.{ℕ_discrete}
+use Rattle.std.specs.Bool.{then_some}
+use Rattle.std.proofs.lemmas.Bool.Decides.{not_from_Decides}
 use Rattle.segments.specs.Shapes.{Shape, Lawful, Point}
 use Rattle.segments.specs.Segments.{Ends, last}
 use Rattle.segments.proofs.Chains.{ahead, ahead_falls, last_next, last_here, last_ends}
@@ -24,3 +27,10 @@ module _ (s : Shape) (L : Lawful s) (d at : ℕ) (p : Point s at) where
   told_end v q none same =
       let here : at ≡ last s d v = sym (last_here s L d at none) ∙ same in
       (q, here, subst (Ends s d v) (sym here) (last_ends s L d v q), last_here s L d at none)
+
+-- a chain to no side ends where it begins
+pub no_side : (s : Shape) → Lawful s → (d v : ℕ) → 3 < d → (b : Bool) → Decides b (Point s v) → TellsEnd s d v (then_some b v)
+no_side s L d v h true t =
+    let none : s.next d v ≡ 0 = elim (ℕ_discrete (s.next d v) 0) [ yes e ↦ e | no w ↦ absurd (omega (arith, (L.from_points d v w).0)) ] in
+    told_end s L d v (t.0 refl) v (t.0 refl) none refl
+no_side s L d v h false t = not_from_Decides false t refl

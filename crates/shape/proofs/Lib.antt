@@ -1,8 +1,13 @@
+pub mod Ranges
+pub mod Picking
 pub mod Filling
+pub mod Entering
 pub mod Returning
 pub mod Numbers
 pub mod Checking
 pub mod Reading
 pub mod Spots
+pub mod Leading
 pub mod Following
 pub mod Copying
+pub mod Searches

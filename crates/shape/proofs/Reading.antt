@@ -1,23 +1,11 @@
 -- What reading a file of either format comes to. Assumes nothing.
-use Rattle.std.proofs.Common.{◌≡◌, ℕ, ◌+◌, ◌-◌, ◌*◌, ◌≤◌, List, length, get_or, IsErrAnd, Ok, Err, Result, sym, ap, ◌∙◌, subst, inl, inr, arith, length-drop, MatchResult}
+use Rattle.std.proofs.Common.{◌≡◌, ℕ, ◌+◌, ◌-◌, ◌*◌, ◌<◌, ◌≤◌, List, length, get_or, IsErrAnd, Ok, Err, Result, sym, ap, ◌∙◌, subst, inl, inr, arith, length-drop, MatchResult}
 use native.Mathlib.Decide.{ℕ_discrete}
 use Rattle.std.proofs.lemmas.Bool.{cases_order}
 use Rattle.segments.specs.Shapes.{Shape, Within}
 use Rattle.segments.proofs.Forward.{same_by_forward}
-use Rattle.shape.specs.declared.refusal.Refusal.{Refusal}
-use Rattle.shape.specs.declared.refusal.Refusal.TheVariants.{NotAShape, WrongSize, OutOfRange, Repeated, Endless}
-use Rattle.shape.specs.Formats.{Format, letter, bytes_a_point, points_of, body_of, coordinate, Joins, Nearest, Taken, Lowest, Nowhere, Fits, Flawless, Flawed, Sound, Refuses, Leads, Tabled, Describes, Defines}
+use Rattle.shape.specs.Formats.{Format, bytes_a_point, points_of, body_of, OtherLetter, coordinate, Joins, Nearest, Taken, Nowhere, Fits, Flawless, Sound, Leads, Tabled, Describes, Defines}
 use Rattle.shape.specs.Formats.Format.{shape_record, old_sheet}
-
-lowest_somewhere : (n : ℕ) (Fault : ℕ → Type 0) (v : ℕ) → Lowest n Fault v → ¬ Nowhere n Fault
-lowest_somewhere n Fault v h none = none v h.point h.fault
-
-pub refuses_unsound : (f : Format) (file : List ℕ) (e : Refusal) → Refuses f file e → ¬ Sound f file
-refuses_unsound f file NotAShape r s = s.0.0 r
-refuses_unsound f file WrongSize r s = s.0.1 r.1
-refuses_unsound f file (OutOfRange v) r s = lowest_somewhere _ _ v r.1 s.1.0
-refuses_unsound f file (Repeated v) r s = lowest_somewhere _ _ v r.1.1 s.1.1
-refuses_unsound f file (Endless v) r s = lowest_somewhere _ _ v r.1.2 s.1.2
 
 -- ---- at most one shape is described
 -- two points nearest to v in one direction have one spot
@@ -71,27 +59,16 @@ described_defines f file s sound d = record {
 }
 
 -- ---- from the header and the checks over the points to the file
-pub header_fits : (f : Format) (file : List ℕ) → 2 ≤ length file → get_or file 0 0 ≡ letter f → 1 ≤ points_of file → points_of file ≤ 128 → length (body_of file) ≡ bytes_a_point f * points_of file → Fits f file
-header_fits f file two first some few long =
-    let whole = length-drop 2 file in (
-      λ o. elim o [ inl h ↦ omega arith | inr h ↦ h first ],
-      λ m. elim m [ inl h ↦ omega arith | inr r ↦ elim r [ inl h ↦ omega arith | inr h ↦ h (omega arith) ] ],
-    )
-
-flawed_refused : (f : Format) (file : List ℕ) (e : Refusal) → Fits f file → Flawed f (points_of file) (body_of file) e → Refuses f file e
-flawed_refused f file NotAShape fits h = absurd h
-flawed_refused f file WrongSize fits h = absurd h
-flawed_refused f file (OutOfRange v) fits h = (fits, h)
-flawed_refused f file (Repeated v) fits h = (fits, h)
-flawed_refused f file (Endless v) fits h = (fits, h)
+pub header_fits : (f : Format) (file : List ℕ) → ¬ OtherLetter f file → 1 ≤ points_of file → points_of file ≤ 128 → length (body_of file) ≡ bytes_a_point f * points_of file → Fits f file
+header_fits f file begins some few long =
+    let whole = length-drop 2 file in
+    let two : ¬ (length file < 2) = λ h. begins (inl h) in
+    (begins, λ m. elim m [ inl h ↦ omega arith | inr r ↦ elim r [ inl h ↦ omega arith | inr h ↦ h (omega arith) ] ])
 
 module _ (f : Format) (file : List ℕ) (n : ℕ) (body : List ℕ) (en : n ≡ points_of file) (eb : body ≡ body_of file) (fits : Fits f file) where
   -- what holds of the number and the bytes holds of the file's
   of_file : (P : ℕ → List ℕ → Type 0) → P n body → P (points_of file) (body_of file)
   of_file P h = subst (λ (k : ℕ). P k (body_of file)) en (subst (P n) eb h)
-
-  pub body_refused : (e : Refusal) → Flawed f n body e → (¬ Sound f file) × Refuses f file e
-  body_refused e h = let r = flawed_refused f file e fits (of_file (λ k bs. Flawed f k bs e) h) in (refuses_unsound f file e r, r)
 
   body_described : (s : Shape) → Tabled f n body s → Describes f file s
   body_described s t = record {

@@ -1,14 +1,37 @@
 -- The wires of an old sheet, each to the nearest point. Assumes nothing.
-use Rattle.std.proofs.Common.{◌≡◌, ℕ, zero, suc, ◌+◌, ◌-◌, ◌*◌, ◌/◌, ◌%◌, ◌<◌, ◌≤◌, ◌≢◌, List, sym, refl, ap, ◌∙◌, subst, inl, inr, arith}
+use Rattle.std.proofs.Common.{◌≡◌, ℕ, zero, suc, ◌-◌, ◌*◌, ◌<◌, ◌≤◌, Bool, true, ◌&&◌, ltb, ◌==◌, ◌≢◌, List, Some, None, Option, MatchOption, Decides, sym, ap, ◌∙◌, inl, inr, arith}
 use native.Mathlib.Decide.{ℕ_discrete}
-use Rattle.std.proofs.lemmas.Bool.{cases_lt, cases_order}
+use Rattle.std.proofs.lemmas.Bool.Decides.{same_from_decides, Decides-and, Decides-eqb, Decides-ltb}
+use Rattle.std.proofs.lemmas.Bool.{cases_order}
 use Rattle.segments.specs.Shapes.{Within, Lawful, steps}
 use Rattle.shape.specs.declared.links.Links.{Links}
-use Rattle.shape.specs.Tables.{cell, of_links, Filled}
-use Rattle.shape.specs.Formats.{coordinate, Joins, Beyond, Nearest, SharesSpot, Taken, Unended, Leads, Lowest, Nowhere}
+use Rattle.shape.specs.Tables.{of_links, Filled}
+use Rattle.shape.specs.Formats.{coordinate, Beyond, Nearest, SharesSpot, Taken, Leads, Nowhere}
 use Rattle.shape.specs.Formats.Format.{old_sheet}
 use Rattle.shape.proofs.Reading.{one_spot, joins?}
 use Rattle.shape.proofs.Filling.{next_point, filled_leads, filled_lawful}
+
+-- whether a point lies beyond another, as a test
+abbrev pub beyond : List ℕ → ℕ → ℕ → ℕ → Bool
+beyond body dir v w = (coordinate body (1 - dir) v == coordinate body (1 - dir) w) && ltb (coordinate body dir v) (coordinate body dir w)
+
+beyond_decides : (body : List ℕ) (dir v w : ℕ) → Decides (beyond body dir v w) (Beyond body dir v w)
+beyond_decides body dir v w =
+    Decides-and _ _ (Decides-eqb (coordinate body (1 - dir) v) (coordinate body (1 - dir) w)) (Decides-ltb (coordinate body dir v) (coordinate body dir w))
+
+pub decided_beyond : (body : List ℕ) (dir v w : ℕ) (b : Bool) → Decides b (Beyond body dir v w) → b ≡ beyond body dir v w
+decided_beyond body dir v w b h = same_from_decides b (beyond body dir v w) h (beyond_decides body dir v w)
+
+-- the least of the points beyond another is the nearest
+pub nearest_picked : (n : ℕ) (body : List ℕ) (dir v : ℕ) (r : Option ℕ)
+    → MatchOption r ((w : ℕ) → Within n w → beyond body dir v w ≡ true → ⊥) (λ m. Within n m × (beyond body dir v m ≡ true) × ((w : ℕ) → Within n w → beyond body dir v w ≡ true → coordinate body dir m ≤ coordinate body dir w))
+    → MatchOption r ((w : ℕ) → Within n w → Beyond body dir v w → ⊥) (Nearest n body dir v)
+nearest_picked n body dir v None none = λ w p b. none w p ((beyond_decides body dir v w).1 b)
+nearest_picked n body dir v (Some m) h = record {
+  point = h.0;
+  beyond = (beyond_decides body dir v m).0 h.1;
+  least = λ u p b. h.2 u p ((beyond_decides body dir v u).1 b);
+}
 
 module _ (n : ℕ) (body : List ℕ) where
   -- two points with one nearest point have one spot
@@ -30,40 +53,13 @@ module _ (n : ℕ) (body : List ℕ) where
       ]
 
   -- a point that a wire leads to is the nearest
-  led_nearest : (dir v w : ℕ) → Leads old_sheet n body dir v w → w ≢ 0 → Nearest n body dir v w
+  pub led_nearest : (dir v w : ℕ) → Leads old_sheet n body dir v w → w ≢ 0 → Nearest n body dir v w
   led_nearest dir v w l h = elim (joins? body dir v) [ yes j ↦ l.0 j | no j ↦ absurd (h (l.1 j)) ]
 
-  module _ (spots : Nowhere n (Taken old_sheet n body)) (i : ℕ) (l : Links) (F : Filled (Leads old_sheet n body) n i l) where
-    -- no wire of the table leads to the nearest point of the next wire
-    pub nearest_free : (dir v w : ℕ) → i ≡ (v - 1) * 2 + dir → dir ≤ 1 → Within n v → Nearest n body dir v w → cell l (dir + 2) w ≡ 0
-    nearest_free dir v w at h pv near =
-        elim (ℕ_discrete (cell l (dir + 2) w) 0) [
-          | yes e ↦ e
-          | no e ↦
-              let u = cell l (dir + 2) w in
-              let pw = near.point in
-              let pu : Within n u = (omega (arith, e), F.inside (dir + 2) w (omega arith) pw) in
-              let on = (F.opposite dir u w h pu pw).1 refl in
-              absurd (elim (cases_lt ((u - 1) * 2 + dir) i) [
-                | inl m ↦
-                    let led = subst (λ (k : ℕ). Leads old_sheet n body dir u k) on (F.forward dir u h pu m) in
-                    let same = one_spot n body spots v u pv pu (same_line dir v u w h pv pu near (led_nearest dir u w led (λ z. omega (arith, pw.0)))) in
-                    omega arith
-                | inr m ↦ let none = F.empty dir u h pu m in omega (arith, pw.0)
-              ])
-        ]
-
-  module _ (i : ℕ) (l : Links) (F : Filled (Leads old_sheet n body) n i l) where
-    -- a point whose wires are in the table is joined to points
-    pub ended : (v : ℕ) → Within n v → ((d : ℕ) → d ≤ 1 → (v - 1) * 2 + d < i) → ¬ Unended old_sheet n body v
-    ended v p done t = let near = (F.forward t.0 v t.1 p (done t.0 t.1)).0 t.2 in t.3 _ near.point near.beyond
-
-    pub first_unended : i < n * 2 → Joins body (i % 2) (i / 2 + 1) → ((w : ℕ) → Within n w → ¬ Beyond body (i % 2) (i / 2 + 1) w) → Lowest n (Unended old_sheet n body) (i / 2 + 1)
-    first_unended h j none = record {
-      point = (omega arith, omega arith);
-      fault = (i % 2, omega arith, j, none);
-      first = λ u p q. ended u (p, omega arith) (λ d e. omega arith);
-    }
+  -- no two points have one nearest point, where no spot is taken
+  pub nearest_apart : Nowhere n (Taken old_sheet n body) → (dir v u w : ℕ) → dir ≤ 1 → Within n v → Within n u → w ≢ 0 → Leads old_sheet n body dir v w → Leads old_sheet n body dir u w → v ≡ u
+  nearest_apart spots dir v u w h pv pu some a b =
+      one_spot n body spots v u pv pu (same_line dir v u w h pv pu (led_nearest dir v w a some) (led_nearest dir u w b some))
 
   -- ---- chains rise
   module _ (low : 1 ≤ n) (high : n ≤ 128) (l : Links) (F : Filled (Leads old_sheet n body) n (n * 2) l) (dir : ℕ) (h : dir ≤ 1) where

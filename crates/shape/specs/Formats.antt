@@ -1,6 +1,7 @@
 -- What the bytes of a shape file say, and when a file is refused. Assumes nothing.
-use Rattle.std.specs.Prelude.{◌≡◌, ℕ, suc, ◌+◌, ◌-◌, ◌*◌, ◌<◌, ◌≤◌, true, cond, ◌≢◌, ◌⊎◌, ◌↔◌, List, length, drop, is_ok, is_err, Some, None, Err, Option, Result, MatchResult, ◌==◌, slice_index}
+use Rattle.std.specs.Prelude.{◌≡◌, ℕ, suc, ◌+◌, ◌-◌, ◌*◌, ◌<◌, ◌≤◌, true, cond, ◌≢◌, ◌⊎◌, ◌↔◌, List, length, drop, is_ok, is_err, Err, Option, Result, ◌==◌, slice_index}
 use Rattle.segments.specs.Shapes.{Shape, Lawful, Within, Point, Same, steps}
+use Rattle.shape.specs.Tables.{Told}
 use Rattle.shape.specs.declared.refusal.Refusal.{Refusal}
 use Rattle.shape.specs.declared.refusal.Refusal.TheVariants.{NotAShape, WrongSize, OutOfRange, Repeated, Endless}
 
@@ -58,11 +59,6 @@ pub record Nearest (n : ℕ) (body : List ℕ) (dir v w : ℕ) : Type 0 where
   pub point : Within n w
   pub beyond : Beyond body dir v w
   pub least : (u : ℕ) → Within n u → Beyond body dir v u → coordinate body dir w ≤ coordinate body dir u
-
--- of a point kept so far, or none, and another: the one with the lesser coordinate, the first where they are equal
-abbrev pub Nearer : List ℕ → ℕ → Option ℕ → ℕ → Option ℕ → Type 0
-Nearer body dir None w r = r ≡ Some w
-Nearer body dir (Some b) w r = (coordinate body dir b ≤ coordinate body dir w → r ≡ Some b) × (coordinate body dir w < coordinate body dir b → r ≡ Some w)
 
 -- ---- when a file is refused
 -- under two bytes, or another letter
@@ -132,6 +128,10 @@ abbrev pub Leads : Format → ℕ → List ℕ → ℕ → ℕ → ℕ → Type 
 Leads shape_record n body dir v w = w ≡ written body dir v
 Leads old_sheet n body dir v w = (Joins body dir v → Nearest n body dir v w) × ((¬ Joins body dir v) → w ≡ 0)
 
+-- what an answer tells of the next point, where the point does not end nowhere
+abbrev pub LeadsTo : Format → ℕ → List ℕ → ℕ → ℕ → Option ℕ → Type 0
+LeadsTo f n body dir v o = ¬ Unended f n body v → (w : ℕ) × Told w o × Leads f n body dir v w
+
 pub record Describes (f : Format) (file : List ℕ) (s : Shape) : Type 0 where
   pub lawful : Lawful s
   pub points : s.points ≡ points_of file
@@ -148,10 +148,6 @@ pub record Tabled (f : Format) (n : ℕ) (body : List ℕ) (s : Shape) : Type 0 
   pub lawful : Lawful s
   pub points : s.points ≡ n
   pub leads : (dir v : ℕ) → dir ≤ 1 → Within n v → Leads f n body dir v (s.next dir v)
-
--- ---- what a check over all points answers: passed, or the refusal that names the lowest point at fault
-abbrev pub Judges : ℕ → (ℕ → Type 0) → (ℕ → Refusal) → Result (Unit {0}) Refusal → Type 0
-Judges n Fault naming r = MatchResult r (λ _. Nowhere n Fault) (λ e. (v : ℕ) × (e ≡ naming v) × Lowest n Fault v)
 
 -- ---- what reading a file answers, and what it leaves of the source that it fills, from `before` to `after`
 pub record Reads {X : Type 0} (f : Format) (file : List ℕ) (shape : X → Shape) (before after : X) (r : Result (Unit {0}) Refusal) : Type 0 where

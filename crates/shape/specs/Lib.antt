@@ -1,4 +1,7 @@
+pub mod Directions
+pub mod ByDirections
 pub mod Tables
+pub mod Checks
 pub mod Refusals
 pub mod Formats
 pub mod Turning

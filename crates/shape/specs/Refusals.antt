@@ -1,5 +1,5 @@
 -- What a refusal of a shape file names. Assumes nothing.
-use Rattle.std.specs.Prelude.{ℕ}
+use Rattle.std.specs.Prelude.{ℕ, List, ◌++◌, codes, decimal}
 use Rattle.shape.specs.declared.refusal.Naming.{Naming}
 use Rattle.shape.specs.declared.refusal.Refusal.{Refusal}
 use Rattle.shape.specs.declared.refusal.Refusal.TheVariants.{NotAShape, WrongSize, OutOfRange, Repeated, Endless}
@@ -15,3 +15,7 @@ naming WrongSize = of_point 2 0
 naming (OutOfRange v) = of_point 3 v
 naming (Repeated v) = of_point 4 v
 naming (Endless v) = of_point 5 v
+
+-- the number, the direction, and the first and the second value
+abbrev pub naming_digits : Naming → List ℕ
+naming_digits n = decimal n.number ++ (codes " " ++ (decimal n.direction ++ (codes " " ++ (decimal n.first ++ (codes " " ++ decimal n.second)))))

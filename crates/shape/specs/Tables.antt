@@ -1,16 +1,18 @@
 -- The table of neighbours. Assumes nothing.
-use Rattle.std.specs.Prelude.{◌≡◌, ℕ, suc, ◌+◌, ◌-◌, ◌*◌, ◌<◌, ◌≤◌, cond, ◌&&◌, ◌↔◌, Some, None, Option, nat_le, slice_index}
-use Rattle.segments.specs.Shapes.{Shape, Within, steps}
+use Rattle.std.specs.Prelude.{◌≡◌, ℕ, ◌+◌, ◌-◌, ◌*◌, ◌<◌, ◌≤◌, cond, ◌&&◌, ◌↔◌, [], Some, None, Option, nat_le, slice_index, slice_index_or}
+use Rattle.segments.specs.Shapes.{Shape, Within}
+use Rattle.shape.specs.declared.direction.Direction.{Direction}
 use Rattle.shape.specs.declared.links.Links.{Links}
+use Rattle.shape.specs.Directions.{direction_number}
 
 -- what a call answers for the number w, where 0 stands for none
 abbrev pub Told : ℕ → Option ℕ → Type 0
 Told w None = w ≡ 0
 Told w (Some v) = (v ≡ w) × (1 ≤ w)
 
--- the neighbour of the point v at side d, in a table of four sides of 128 points
+-- the neighbour of the point v at side d
 abbrev pub cell : Links → ℕ → ℕ → ℕ
-cell l d v = slice_index l.cells (d * 128 + (v - 1))
+cell l d v = slice_index (slice_index_or l.cells d []) (v - 1)
 
 -- the shape that a table stands for: none for any other side or point
 abbrev pub of_links : Links → Shape
@@ -29,10 +31,6 @@ pub record Filled (R : ℕ → ℕ → ℕ → Type 0) (n i : ℕ) (l : Links) :
   pub inside : (d u : ℕ) → d ≤ 3 → Within n u → cell l d u ≤ n
   pub opposite : (d u w : ℕ) → d ≤ 1 → Within n u → Within n w → (cell l d u ≡ w) ↔ (cell l (d + 2) w ≡ u)
 
--- steps to side d lead from v back to it
-abbrev pub Returns : Links → ℕ → ℕ → Type 0
-Returns l d v = (k : ℕ) × (steps (of_links l) d (suc k) v ≡ v)
-
--- steps to the right or above lead from v back to it
-abbrev pub Circles : Links → ℕ → Type 0
-Circles l v = (d : ℕ) × (d ≤ 1) × Returns l d v
+-- what a closure tells of wires: from the point v in direction d leads one to w, or there is none and w is 0
+abbrev pub LeadsBy : (ℕ → Direction → Option ℕ → Type 0) → ℕ → ℕ → ℕ → Type 0
+LeadsBy Tells d v w = (direction : Direction) × (o : Option ℕ) × (direction_number direction ≡ d) × Tells v direction o × Told w o

@@ -2,18 +2,18 @@
 ghost use Rattle.std.specs.Prelude.{◌≡◌, ℕ, ◌*◌, ◌<◌, ◌≤◌, ◌⊎◌, length, MatchResult, ◌≢◌};
 ghost use Rattle.shape.specs.declared.refusal.Refusal.TheVariants.{WrongSize};
 
+use crate::points::PointCount;
 use crate::refusal::Refusal;
-
-const MOST: u8 = 128;
+use crate::source::MOST_POINTS;
 
 // The number of points, where the bytes after the header are as many as they need.
-pub(crate) fn sized(points: u8, body: &[u8], bytes_a_point: usize) -> Result<usize, Refusal>
+pub(crate) fn sized(points: u8, body: &[u8], bytes_a_point: usize) -> Result<PointCount, Refusal>
     requires { bytes_a_point ≤ 3 }
-    ensures { MatchResult result (λ n. (n ≡ points) × (1 ≤ points) × (points ≤ 128) × (length body.now ≡ bytes_a_point * points)) (λ e. (e ≡ WrongSize) × ((points ≡ 0) ⊎ ((128 < points) ⊎ (length body.now ≢ bytes_a_point * points)))) }
+    ensures { MatchResult result (λ n. (n.count ≡ points) × (length body.now ≡ bytes_a_point * points)) (λ e. (e ≡ WrongSize) × ((points ≡ 0) ⊎ ((128 < points) ⊎ (length body.now ≢ bytes_a_point * points)))) }
 {
-    let n = usize::from(points);
-    if points == 0 || points > MOST || body.len() != bytes_a_point * n {
+    let count = usize::from(points);
+    if count == 0 || count > MOST_POINTS || body.len() != bytes_a_point * count {
         return Err(Refusal::WrongSize);
     }
-    Ok(n)
+    Ok(PointCount { count })
 }

@@ -1,24 +1,32 @@
-// A table of neighbours: one cell for each side and point, 0 where there is none.
-ghost use Rattle.std.specs.Prelude.{◌≡◌, ℕ, ◌+◌, ◌<◌, ◌≤◌, Decides};
-ghost use Rattle.shape.specs.Tables.{Told, cell, of_links, Returns};
+// A table of neighbours: a row for each side, with a cell for each point, 0 where there is none.
+ghost use Rattle.std.specs.Prelude.{◌≤◌};
 
-const MOST: usize = 128;
+use crate::direction::{Direction, Side};
+use crate::points::PointCount;
+use crate::source::MOST_POINTS;
 
+// A fixed table: the board asks for no memory.
 #[derive(Clone, Copy)]
 pub(crate) struct Links {
     points: usize,
-    cells: [u8; 512],
+    cells: [[u8; MOST_POINTS]; 4],
+    ghost few: { points ≤ 128 },
 }
 
 impl Links {
+    ghost use Rattle.std.specs.Prelude.{◌≡◌, ℕ, ◌+◌};
+    ghost use Rattle.segments.specs.Shapes.{Within};
+    ghost use Rattle.shape.specs.Directions.{side_number, direction_number};
+    ghost use Rattle.shape.specs.Tables.{Told, cell, of_links};
+
     // Points without wires.
-    pub(crate) fn unjoined(points: usize) -> Links
-        ensures points { result.points ≡ points }
+    pub(crate) fn unjoined(points: PointCount) -> Links
+        ensures points { result.points ≡ points.count }
         ensures cells { (d v : ℕ) → cell result d v ≡ 0 }
     {
         Links {
-            points,
-            cells: [0; 512],
+            points: points.count,
+            cells: [[0; MOST_POINTS]; 4],
         }
     }
 
@@ -28,49 +36,28 @@ impl Links {
         self.points
     }
 
-    pub(crate) fn neighbour(&self, point: usize, side: usize) -> Option<usize>
-        requires { self.now.points ≤ 128 }
-        ensures { Told ((of_links self.now).next side point) result }
+    pub(crate) fn neighbour(&self, point: usize, side: Side) -> Option<usize>
+        ensures { Told ((of_links self.now).next (side_number side) point) result }
     {
-        if side > 3 || point == 0 || point > self.points {
+        if point == 0 || point > self.points {
             return None;
         }
-        match self.cells[side * MOST + (point - 1)] {
+        match self.cells[usize::from(side)][point - 1] {
             0 => None,
             next => Some(usize::from(next)),
         }
     }
 
     // A wire from one point to the right, or above, to another.
-    pub(crate) fn join(&mut self, direction: usize, from: usize, to: usize)
-        requires direction { direction ≤ 1 }
-        requires from { (1 ≤ from) × (from ≤ 128) }
-        requires to { (1 ≤ to) × (to ≤ 128) }
+    pub(crate) fn join(&mut self, direction: Direction, from: usize, to: usize)
+        requires from { Within self.old.points from }
+        requires to { Within self.old.points to }
         ensures points { self.new.points ≡ self.old.points }
-        ensures there { cell self.new direction from ≡ to }
-        ensures back { cell self.new (direction + 2) to ≡ from }
-        ensures others { (d v : ℕ) → 1 ≤ v → v ≤ 128 → ((d ≡ direction) × (v ≡ from) → ⊥) → ((d ≡ direction + 2) × (v ≡ to) → ⊥) → cell self.new d v ≡ cell self.old d v }
+        ensures there { cell self.new (direction_number direction) from ≡ to }
+        ensures back { cell self.new (direction_number direction + 2) to ≡ from }
+        ensures others { (d v : ℕ) → 1 ≤ v → ((d ≡ direction_number direction) × (v ≡ from) → ⊥) → ((d ≡ direction_number direction + 2) × (v ≡ to) → ⊥) → cell self.new d v ≡ cell self.old d v }
     {
-        self.cells[direction * MOST + (from - 1)] = to as u8;
-        self.cells[(direction + 2) * MOST + (to - 1)] = from as u8;
-    }
-
-    // Whether steps to a side lead from a point back to it.
-    pub(crate) fn returns(&self, point: usize, side: usize) -> bool
-        requires few { self.now.points ≤ 128 }
-        requires side { side ≤ 3 }
-        requires point { (1 ≤ point) × (point ≤ self.now.points) }
-        requires inside { (v : ℕ) → 1 ≤ v → v ≤ self.now.points → cell self.now side v ≤ self.now.points }
-        ensures { Decides result (Returns self.now side point) }
-    {
-        let mut at = point;
-        for _walked in 0..self.points {
-            match self.neighbour(at, side) {
-                None => return false,
-                Some(next) if next == point => return true,
-                Some(next) => at = next,
-            }
-        }
-        false
+        self.cells[usize::from(direction.ahead())][from - 1] = to as u8;
+        self.cells[usize::from(direction.behind())][to - 1] = from as u8;
     }
 }

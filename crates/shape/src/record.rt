@@ -1,139 +1,126 @@
 // A shape record: for each point the number of the next point to the right and of the next above.
-ghost use Rattle.std.specs.Prelude.{◌≡◌, ℕ, ◌*◌, ◌<◌, ◌≤◌, length, Decides, MatchResult};
-ghost use Rattle.segments.specs.Shapes.{Within, Same};
-ghost use Rattle.shape.specs.Formats.{TooHigh, Taken, Leads, Nowhere, Lowest, Judges, Flawed, Tabled, Sound, Defines, Refuses, Reads};
+ghost use Rattle.std.specs.Prelude.{◌≡◌, ℕ, suc, ◌*◌, ◌<◌, ◌≤◌, length, Decides, refl};
+ghost use Rattle.segments.specs.Shapes.{Within, steps};
+ghost use Rattle.shape.specs.Directions.{direction_number};
+ghost use Rattle.shape.specs.Formats.{written, as_written, TooHigh, Nowhere};
 ghost use Rattle.shape.specs.Formats.Format.{shape_record};
-ghost use Rattle.shape.specs.Tables.{cell, of_links, Filled, Circles, unwired};
-ghost use Rattle.shape.specs.Sources.{of_neighbours, of_record};
-ghost use Rattle.shape.specs.declared.refusal.Refusal.TheVariants.{OutOfRange, Repeated, Endless};
-ghost use Rattle.shape.specs.Keeping.{neighbours_lawful};
+ghost use Rattle.shape.specs.Tables.{Told};
 
-use crate::header::sized;
+use crate::body::{Body, tabled};
+use crate::direction::Direction;
+use crate::format::FileFormat;
 use crate::links::Links;
-use crate::neighbours::Neighbours;
+use crate::points::PointCount;
 use crate::refusal::Refusal;
-use crate::source::{ABOVE, RIGHT, ShapeSource};
+use crate::shape_table::ShapeTable;
+
+pub type ShapeRecord = ShapeTable<RecordFormat>;
 
 #[derive(Clone, Copy)]
-pub struct ShapeRecord {
-    neighbours: Neighbours,
-}
+pub struct RecordFormat;
 
-impl ShapeRecord {
-    // One point without wires.
-    pub fn new() -> ShapeRecord
-        ensures { Same (of_record result) (unwired 1) }
-    {
-        ShapeRecord {
-            neighbours: Neighbours::unjoined(1),
+impl FileFormat for RecordFormat {
+    ghost format = { shape_record };
+
+    ghost BYTES_A_POINT = { 2 };
+
+    ghost its_bytes = { refl };
+
+    const BYTES_A_POINT: usize = 2;
+
+    // By a rule of the project: one pattern takes the file apart.
+    fn parts(file: &[u8]) -> Option<(u8, &[u8])> {
+        match file {
+            [b'S', points, body @ ..] => Some((*points, body)),
+            _ => None,
         }
     }
 
-    // Fills the record from a file's bytes, or refuses them and leaves it as it was.
-    pub fn read(&mut self, file: &[u8]) -> Result<(), Refusal>
-        ensures { Reads shape_record file.now of_record self.old self.new result }
+    fn table(points: PointCount, bytes: &[u8]) -> Result<Links, Refusal> {
+        tabled(&Numbers { points, bytes })
+    }
+}
+
+#[derive(Clone, Copy)]
+struct Numbers<'a> {
+    points: PointCount,
+    bytes: &'a [u8],
+    ghost long: { length bytes.now ≡ 2 * points.count },
+}
+
+// Points are asked for as they are counted: a type for a point of the body would be made and taken apart at each question.
+impl Numbers<'_> {
+    // The number of the next point, or 0.
+    fn number(&self, point: usize, direction: Direction) -> u8
+        requires { Within self.now.points.count point }
+        ensures { result ≡ written self.now.bytes.now (direction_number direction) point }
     {
-        self.neighbours = described(file)?;
-        Ok(())
-    }
-}
-
-impl ShapeSource for ShapeRecord {
-    ghost shape = { of_record };
-
-    ghost lawful = { λ s. neighbours_lawful s.neighbours };
-
-    fn points(&self) -> usize {
-        self.neighbours.points()
+        self.bytes[(point - 1) * 2 + usize::from(direction)]
     }
 
-    fn neighbour(&self, point: usize, side: usize) -> Option<usize> {
-        self.neighbours.neighbour(point, side)
-    }
-}
-
-// No next number lies above the number of points.
-fn check_range(points: usize, body: &[u8]) -> Result<(), Refusal>
-    requires { length body.now ≡ 2 * points }
-    ensures { Judges points (TooHigh shape_record points body.now) OutOfRange result }
-{
-    for (index, next) in body.iter().enumerate() {
-        if usize::from(*next) > points {
-            return Err(Refusal::OutOfRange {
-                point: index / 2 + 1,
-            });
+    // The next point.
+    fn following(&self, point: usize, direction: Direction) -> Option<usize>
+        requires { Within self.now.points.count point }
+        ensures { Told (written self.now.bytes.now (direction_number direction) point) result }
+    {
+        match self.number(point, direction) {
+            0 => None,
+            next => Some(usize::from(next)),
         }
     }
-    Ok(())
-}
 
-// The table of the numbers, each wire seen from both its ends; none is led to from two points at one side.
-fn joined(points: usize, body: &[u8]) -> Result<Links, Refusal>
-    requires few { points ≤ 128 }
-    requires long { length body.now ≡ 2 * points }
-    requires range { Nowhere points (TooHigh shape_record points body.now) }
-    ensures { MatchResult result (λ l. Filled (Leads shape_record points body.now) points (points * 2) l × Nowhere points (Taken shape_record points body.now)) (λ e. (v : ℕ) × (e ≡ Repeated v) × Lowest points (Taken shape_record points body.now) v) }
-{
-    let mut links = Links::unjoined(points);
-    for (index, byte) in body.iter().enumerate() {
-        let point = index / 2 + 1;
-        let direction = index % 2;
-        let next = usize::from(*byte);
-        if next > 0 {
-            if links.neighbour(next, direction + 2).is_some() {
-                return Err(Refusal::Repeated { point });
+    // Whether a lower point has the same next point.
+    fn is_repeated(&self, point: usize, direction: Direction) -> bool
+        requires { Within self.now.points.count point }
+        ensures { Decides result ((u : ℕ) × (1 ≤ u) × (u < point) × (written self.now.bytes.now (direction_number direction) u ≡ written self.now.bytes.now (direction_number direction) point) × (1 ≤ written self.now.bytes.now (direction_number direction) point)) }
+    {
+        let next = self.number(point, direction);
+        next > 0 && (1..point).any(|lower| self.number(lower, direction) == next)
+    }
+
+    // Whether the chain from a point returns to it.
+    fn returns(&self, point: usize, direction: Direction) -> bool
+        requires point { Within self.now.points.count point }
+        requires range { Nowhere self.now.points.count (TooHigh shape_record self.now.points.count self.now.bytes.now) }
+        ensures { Decides result ((k : ℕ) × (steps (as_written self.now.points.count self.now.bytes.now) (direction_number direction) (suc k) point ≡ point)) }
+    {
+        // A walk with a bound, since a chain as it is written may go round.
+        let mut at = point;
+        for _walked in 0..self.points.count {
+            match self.following(at, direction) {
+                None => return false,
+                Some(next) if next == point => return true,
+                Some(next) => at = next,
             }
-            links.join(direction, point, next);
         }
+        false
     }
-    Ok(links)
 }
 
-// Whether a chain to the right or above returns to a point.
-fn circles(links: &Links, point: usize) -> bool
-    requires few { links.now.points ≤ 128 }
-    requires inside { (d v : ℕ) → d ≤ 1 → Within links.now.points v → cell links.now d v ≤ links.now.points }
-    requires point { Within links.now.points point }
-    ensures { Decides result (Circles links.now point) }
-{
-    links.returns(point, RIGHT) || links.returns(point, ABOVE)
-}
+impl Body for Numbers<'_> {
+    ghost format = { shape_record };
 
-// No chain to the right or above returns to a point of it.
-fn check_ends(links: &Links) -> Result<(), Refusal>
-    requires few { links.now.points ≤ 128 }
-    requires inside { (d v : ℕ) → d ≤ 1 → Within links.now.points v → cell links.now d v ≤ links.now.points }
-    ensures { Judges links.now.points (Circles links.now) Endless result }
-{
-    for point in 1..=links.points() {
-        if circles(links, point) {
-            return Err(Refusal::Endless { point });
-        }
+    ghost count = { λ s. s.points };
+
+    ghost bytes = { λ s. s.bytes.now };
+
+    fn points(&self) -> PointCount {
+        self.points
     }
-    Ok(())
-}
 
-// The table that the bytes after the header define.
-fn tabled(points: usize, body: &[u8]) -> Result<Links, Refusal>
-    requires some { 1 ≤ points }
-    requires few { points ≤ 128 }
-    requires long { length body.now ≡ 2 * points }
-    ensures { MatchResult result (λ l. Tabled shape_record points body.now (of_links l)) (Flawed shape_record points body.now) }
-{
-    check_range(points, body)?;
-    let links = joined(points, body)?;
-    check_ends(&links)?;
-    Ok(links)
-}
+    fn is_too_high(&self, point: usize) -> bool {
+        Direction::any(|direction| usize::from(self.number(point, direction)) > self.points.count)
+    }
 
-// The neighbours that a file's bytes define.
-fn described(file: &[u8]) -> Result<Neighbours, Refusal>
-    ensures { MatchResult result (λ t. Sound shape_record file.now × Defines shape_record file.now (of_neighbours t)) (λ e. (Sound shape_record file.now → ⊥) × Refuses shape_record file.now e) }
-{
-    let [b'S', n, body @ ..] = file else {
-        return Err(Refusal::NotAShape);
-    };
-    let points = sized(*n, body, 2)?;
-    let links = tabled(points, body)?;
-    Ok(Neighbours::of(links))
+    fn is_taken(&self, point: usize) -> bool {
+        Direction::any(|direction| self.is_repeated(point, direction))
+    }
+
+    fn is_unended(&self, point: usize) -> bool {
+        Direction::any(|direction| self.returns(point, direction))
+    }
+
+    fn next(&self, point: usize, direction: Direction) -> Option<usize> {
+        self.following(point, direction)
+    }
 }

@@ -1,6 +1,8 @@
 // Why a shape file is refused.
-ghost use Rattle.std.specs.Prelude.{◌≡◌};
-ghost use Rattle.shape.specs.Refusals.{naming, of_point};
+ghost use Rattle.std.specs.Prelude.{◌≡◌, Some};
+ghost use Rattle.shape.specs.Refusals.{naming, naming_digits};
+
+use std::fmt;
 
 // Each case with a point names the lowest point at fault.
 #[derive(Clone, Copy, Debug, PartialEq, Eq)]
@@ -26,27 +28,42 @@ pub struct Naming {
     pub second: usize,
 }
 
-impl Refusal {
-    pub fn naming(&self) -> Naming
-        ensures { result ≡ naming self.now }
+impl Naming {
+    // A number with what it names.
+    pub fn new(number: usize, direction: usize, first: usize, second: usize) -> Naming
+        ensures { result ≡ record { number = number; direction = direction; first = first; second = second } }
     {
-        match self {
-            Refusal::NotAShape => of_point(1, 0),
-            Refusal::WrongSize => of_point(2, 0),
-            Refusal::OutOfRange { point } => of_point(3, *point),
-            Refusal::Repeated { point } => of_point(4, *point),
-            Refusal::Endless { point } => of_point(5, *point),
+        Naming {
+            number,
+            direction,
+            first,
+            second,
         }
     }
 }
 
-fn of_point(number: usize, point: usize) -> Naming
-    ensures { result ≡ of_point number point }
-{
-    Naming {
-        number,
-        direction: 0,
-        first: point,
-        second: 0,
+impl fmt::Display for Naming {
+    ghost output = { λ n. Some (naming_digits n) };
+
+    fn fmt<W: fmt::Write>(&self, f: &mut fmt::Formatter<W>) -> fmt::Result {
+        write!(
+            f,
+            "{} {} {} {}",
+            self.number, self.direction, self.first, self.second
+        )
+    }
+}
+
+impl From<Refusal> for Naming {
+    ghost from_gives = { λ refusal named. named ≡ naming refusal };
+
+    fn from(refusal: Refusal) -> Naming {
+        match refusal {
+            Refusal::NotAShape => Naming::new(1, 0, 0, 0),
+            Refusal::WrongSize => Naming::new(2, 0, 0, 0),
+            Refusal::OutOfRange { point } => Naming::new(3, 0, point, 0),
+            Refusal::Repeated { point } => Naming::new(4, 0, point, 0),
+            Refusal::Endless { point } => Naming::new(5, 0, point, 0),
+        }
     }
 }

@@ -1,21 +1,13 @@
 // What a source of shapes tells.
 ghost use Rattle.std.specs.Prelude.{◌≡◌, ℕ};
 ghost use Rattle.segments.specs.Shapes.{Shape, Lawful};
+ghost use Rattle.shape.specs.Directions.{side_number};
 ghost use Rattle.shape.specs.Tables.{Told};
 
-// The sides of a point. A wire goes to the right or above; the side two further on is the opposite one.
-pub const RIGHT: usize = 0;
+use crate::direction::Side;
 
-pub const ABOVE: usize = 1;
-
-pub const LEFT: usize = 2;
-
-pub const BELOW: usize = 3;
-
-// The directions of wires and arcs, each by the side that it goes to.
-pub const ACROSS: usize = RIGHT;
-
-pub const UP: usize = ABOVE;
+// The most points that a shape has.
+pub const MOST_POINTS: usize = 128;
 
 pub trait ShapeSource {
     ghost shape: { Self → Shape };
@@ -23,8 +15,16 @@ pub trait ShapeSource {
     fn points(&self) -> usize
         ensures { result ≡ (shape self.now).points };
 
+    // By the number of the side, since the rules answer every number.
     fn neighbour(&self, point: usize, side: usize) -> Option<usize>
         ensures { Told ((shape self.now).next side point) result };
+
+    // The same, for a side by its name.
+    final fn beside(&self, point: usize, side: Side) -> Option<usize>
+        ensures { Told ((shape self.now).next (side_number side) point) result }
+    {
+        self.neighbour(point, usize::from(side))
+    }
 
     ghost lawful: { (s : Self) → Lawful (shape s) };
 }

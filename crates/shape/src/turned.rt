@@ -4,6 +4,7 @@ ghost use Rattle.segments.specs.Shapes.{Shape, Lawful, Same};
 ghost use Rattle.shape.specs.Turning.{side_before, turned};
 ghost use Rattle.shape.specs.TurningLemmas.{turned_lawful};
 
+use crate::direction::Side;
 use crate::source::ShapeSource;
 
 #[derive(Clone, Copy)]
@@ -48,9 +49,7 @@ impl<S: ShapeSource> ShapeSource for Turned<S> {
     }
 
     fn neighbour(&self, point: usize, side: usize) -> Option<usize> {
-        if side > 3 {
-            return None;
-        }
+        let side = usize::from(Side::try_from(side).ok()?);
         self.source
             .neighbour(point, (side + (4 - self.turns % 4)) % 4)
     }

@@ -3,7 +3,7 @@
 
 use anyhow::anyhow;
 use report::file_text::file_text;
-use report::shape_text::shape_text;
+use report::shape_text::ShapeText;
 use shape::record::ShapeRecord;
 use shape::turned::Turned;
 use std::fs;
@@ -28,18 +28,17 @@ fn trial(rt: &HostRuntime, name: &str) -> anyhow::Result<()> {
 // The text of a record turned by so many quarters.
 fn turned_trial(rt: &HostRuntime, record: ShapeRecord, turns: usize) -> anyhow::Result<()> {
     let source = Turned::new(record, turns);
-    let text = shape_text(rt.alloc(), &source)?;
     println!(rt; "== record_five turned {turns}")?;
-    rt.print(text)?;
+    rt.print(ShapeText { source: &source })?;
     Ok(())
 }
 
 fn turned_trials(rt: &HostRuntime) -> anyhow::Result<()> {
     let file = fs::read(rt, TURNED)?;
     let mut record = ShapeRecord::new();
-    if record.read(file.as_slice()).is_err() {
-        return Err(anyhow!("the shape to be turned was refused"));
-    }
+    record
+        .read(file.as_slice())
+        .map_err(|_refusal| anyhow!("the shape to be turned was refused"))?;
     for turns in 0..=MOST_TURNS {
         turned_trial(rt, record, turns)?;
     }

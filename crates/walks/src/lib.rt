@@ -72,7 +72,7 @@ pub fn highest_place(gap: u32, rounds: u32) -> u64
     ensures within { PlacesWithin gap rounds result }
     ensures unmet { EndsUnmet gap rounds result }
 {
-    gap as u64 * rounds as u64
+    u64::from(gap) * u64::from(rounds)
 }
 
 // Where places end: beyond all that gaps of at most 100 bring about in 128 rounds.

@@ -1,23 +1,22 @@
 // Boards are made over any source of shapes.
-ghost use Rattle.std.specs.Prelude.{◌≡◌, ◌≤◌, []};
+ghost use Rattle.std.specs.Prelude.{[]};
 ghost use Rattle.path_table.specs.Tracks.{OfShape};
-ghost use Rattle.board.specs.Boards.{arcs_of, Stands};
+ghost use Rattle.shape.specs.Directions.{direction_number};
+ghost use Rattle.board.specs.Boards.{Stands};
 
 use super::Board;
 use path_table::direction_arcs::DirectionArcs;
 use segment_table::table::SegmentTable;
+use shape::by_direction::ByDirection;
 use shape::copy::ShapeCopy;
-use shape::source::{ACROSS, ShapeSource, UP};
+use shape::direction::Direction;
+use shape::source::ShapeSource;
 
 // The shape's own arcs of a direction.
-fn own_arcs<S: ShapeSource>(source: &S, direction: usize) -> DirectionArcs
-    requires { direction ≤ 1 }
-    ensures { OfShape (S.ShapeSource.shape source.now) direction result }
+fn own_arcs<S: ShapeSource>(source: &S, direction: Direction) -> DirectionArcs
+    ensures { OfShape (S.ShapeSource.shape source.now) (direction_number direction) result }
 {
-    match DirectionArcs::of(source, direction) {
-        Some(arcs) => arcs,
-        None => unreachable(),
-    }
+    DirectionArcs::of(source, usize::from(direction)).unwrap()
 }
 
 impl Board {
@@ -27,26 +26,14 @@ impl Board {
     {
         let shape = ShapeCopy::of(source);
         let segments = SegmentTable::of(&shape);
-        let across = own_arcs(&shape, ACROSS);
-        let up = own_arcs(&shape, UP);
+        let across = own_arcs(&shape, Direction::Across);
+        let up = own_arcs(&shape, Direction::Up);
         let contradictory = across.closes_circle() || up.closes_circle();
         Board {
             shape,
             segments,
-            across,
-            up,
+            arcs: ByDirection { across, up },
             contradictory,
-        }
-    }
-
-    // The arcs of a direction, 0 across and 1 up.
-    pub(super) fn arcs(&self, direction: usize) -> &DirectionArcs
-        ensures { result.now ≡ arcs_of self.now direction }
-    {
-        if direction == ACROSS {
-            &self.across
-        } else {
-            &self.up
         }
     }
 }

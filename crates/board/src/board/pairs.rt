@@ -1,8 +1,9 @@
 // How rows and columns lie to each other under the arcs in force.
-ghost use Rattle.std.specs.Prelude.{◌≡◌, ℕ, ◌-◌, ◌≤◌, List, ◌∷◌, Decides, MatchOption, MatchResult};
+ghost use Rattle.std.specs.Prelude.{◌≡◌, ℕ, ◌-◌, ◌<◌, List, ◌∷◌, Decides, MatchOption, MatchResult};
 ghost use Rattle.segments.specs.Shapes.{Shape};
 ghost use Rattle.segments.specs.Segments.{Named};
 ghost use Rattle.drawings.specs.Arcs.{Arc, Path, EndsBefore, BeginsBeyond, Open, NoneOpen};
+ghost use Rattle.shape.specs.Directions.{direction_number};
 ghost use Rattle.logs.specs.Lines.{Line, apart};
 ghost use Rattle.logs.specs.Refusing.{LowestOpen};
 ghost use Rattle.logs.specs.Answers.{Answers, Pairs};
@@ -13,31 +14,31 @@ ghost use Rattle.board.specs.Outcomes.{of_pair};
 use super::Board;
 use logs::pairing::Pairing;
 use logs::refusal::Refusal;
-use shape::source::{ACROSS, UP};
+use shape::direction::Direction;
 
 impl Board {
     // Whether a line along the direction, a row across or a column up, ends before a segment of the direction:
     // whether the segment where it ends reaches that one.
-    fn ends_before(&self, direction: usize, line: usize, segment: usize) -> bool
-        ensures { (s : Shape) (log : List Line) → Stands s log self.now → direction ≤ 1 → Named s (1 - direction) line → Decides result (EndsBefore s (λ dir. Path (Arc (gap_of self.now) dir)) direction line segment) }
+    fn ends_before(&self, direction: Direction, line: usize, segment: usize) -> bool
+        ensures { (s : Shape) (log : List Line) → Stands s log self.now → Named s (1 - direction_number direction) line → Decides result (EndsBefore s (λ dir. Path (Arc (gap_of self.now) dir)) (direction_number direction) line segment) }
     {
-        let Some(record) = self.segments.segment(UP - direction.min(UP), line) else {
+        let Some(record) = self.segments.segment(usize::from(direction.other()), line) else {
             return false;
         };
-        let Some(last) = self.segments.name(direction, record.end) else {
+        let Some(last) = self.segments.name(usize::from(direction), record.end) else {
             return false;
         };
-        self.arcs(direction).reaches(last, segment)
+        self.arcs.of(direction).reaches(last, segment)
     }
 
     // Whether such a line begins beyond a segment of the direction: whether that one reaches the segment where it begins.
-    fn begins_beyond(&self, direction: usize, line: usize, segment: usize) -> bool
-        ensures { (s : Shape) (log : List Line) → Stands s log self.now → direction ≤ 1 → Named s (1 - direction) line → Decides result (BeginsBeyond s (λ dir. Path (Arc (gap_of self.now) dir)) direction line segment) }
+    fn begins_beyond(&self, direction: Direction, line: usize, segment: usize) -> bool
+        ensures { (s : Shape) (log : List Line) → Stands s log self.now → Named s (1 - direction_number direction) line → Decides result (BeginsBeyond s (λ dir. Path (Arc (gap_of self.now) dir)) (direction_number direction) line segment) }
     {
-        let Some(first) = self.segments.name(direction, line) else {
+        let Some(first) = self.segments.name(usize::from(direction), line) else {
             return false;
         };
-        self.arcs(direction).reaches(segment, first)
+        self.arcs.of(direction).reaches(segment, first)
     }
 
     // How a row and a column lie.
@@ -47,10 +48,10 @@ impl Board {
         if self.segments.touch(row, column) {
             return Pairing::Touch;
         }
-        if self.ends_before(ACROSS, row, column)
-            || self.begins_beyond(ACROSS, row, column)
-            || self.begins_beyond(UP, column, row)
-            || self.ends_before(UP, column, row)
+        if self.ends_before(Direction::Across, row, column)
+            || self.begins_beyond(Direction::Across, row, column)
+            || self.begins_beyond(Direction::Up, column, row)
+            || self.ends_before(Direction::Up, column, row)
         {
             return Pairing::Apart;
         }
@@ -62,8 +63,8 @@ impl Board {
         ensures answers { (s : Shape) (log : List Line) → Stands s log self.now → Answers s (gap_of self.now) (apart row column) (of_pair result) }
         ensures stands { (s : Shape) (log : List Line) → Stands s log self.now → Stands s (apart row column ∷ log) self.now }
     {
-        self.check_name(UP, row)?;
-        self.check_name(ACROSS, column)?;
+        self.check_name(Direction::Up, row)?;
+        self.check_name(Direction::Across, column)?;
         Ok(self.pairing(row, column))
     }
 
@@ -71,13 +72,11 @@ impl Board {
     fn is_open(&self, row: usize, column: usize) -> bool
         ensures { (s : Shape) (log : List Line) → Stands s log self.now → Decides result (Open s (Arc (gap_of self.now)) row column) }
     {
-        match self.apart(row, column) {
-            Ok(Pairing::Open) => true,
-            _ => false,
-        }
+        matches!(self.apart(row, column), Ok(Pairing::Open))
     }
 
     // No pair is open; or the lowest row of one, and its lowest column.
+    // By a rule of the project: loops that a label leaves at the first open pair.
     pub(super) fn check_pairs(&self) -> Result<(), Refusal>
         ensures { (s : Shape) (log : List Line) → Stands s log self.now → MatchResult result (λ _. NoneOpen s (Arc (gap_of self.now))) (λ e. (row column : ℕ) × (e ≡ OpenPair row column) × LowestOpen s (gap_of self.now) row column) }
     {

@@ -2,15 +2,16 @@
 ghost use Rattle.engine_trials.specs.Slopes.{slope_gaps, slope_bounds};
 
 use super::Slope;
-use propagation::graph::ConstraintGraph;
+use propagation::graph::{ConstraintGraph, MOST_NODES};
 
 impl Slope {
     // None for other than 1 to 128 nodes and a gap of -100 to 100.
     pub(crate) fn new(nodes: usize, gap: i8) -> Option<Slope> {
-        if nodes < 1 || nodes > 128 || gap < -100 || gap > 100 {
-            return None;
+        if (1..=MOST_NODES).contains(&nodes) && (-100..=100).contains(&gap) {
+            Some(Slope { nodes, gap })
+        } else {
+            None
         }
-        Some(Slope { nodes, gap })
     }
 }
 
@@ -26,9 +27,6 @@ impl ConstraintGraph for Slope {
     }
 
     fn gap(&self, from: usize, to: usize) -> Option<i8> {
-        if from < to && to < self.nodes && to - from == 1 {
-            return Some(self.gap);
-        }
-        None
+        (from < to && to < self.nodes && to - from == 1).then_some(self.gap)
     }
 }

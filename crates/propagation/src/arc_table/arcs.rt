@@ -17,10 +17,11 @@ impl ArcTable {
         }
         Some(ArcTable {
             nodes,
-            arcs: [false; 16384],
+            arcs: [false; MOST_NODES * MOST_NODES],
         })
     }
 
+    // Two names for `put`, since its flag would not show at a call what it means.
     // An arc of gap 1 from one node to another; other numbers change nothing.
     pub fn set(&mut self, from: usize, to: usize)
         ensures { Put self.old self.new from to (Some (pos 1)) }
@@ -35,7 +36,8 @@ impl ArcTable {
         self.put(from, to, false);
     }
 
-    fn put(&mut self, from: usize, to: usize, arc: bool)
+    // An arc of gap 1 from one node to another, or none; other numbers change nothing.
+    pub fn put(&mut self, from: usize, to: usize, arc: bool)
         ensures { Put self.old self.new from to (then_some arc (pos 1)) }
     {
         if from < self.nodes && to < self.nodes {
@@ -56,9 +58,6 @@ impl ConstraintGraph for ArcTable {
     }
 
     fn gap(&self, from: usize, to: usize) -> Option<i8> {
-        if from < self.nodes && to < self.nodes && self.arcs[from * MOST_NODES + to] {
-            return Some(1);
-        }
-        None
+        (from < self.nodes && to < self.nodes && self.arcs[from * MOST_NODES + to]).then_some(1)
     }
 }

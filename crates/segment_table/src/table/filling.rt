@@ -1,31 +1,56 @@
 // Filling a table of segment records from a source of shapes.
-ghost use Rattle.std.specs.Prelude.{◌≡◌, ℕ, ◌+◌, ◌*◌, ◌<◌, ◌≤◌, ◌&&◌, if◌then◌else◌, ◌==◌, nat_eq};
-ghost use Rattle.segments.specs.Shapes.{Within};
-ghost use Rattle.segment_table.specs.Records.{name_in, record_in, blank, Recorded, Entered, Counted};
+ghost use Rattle.std.specs.Prelude.{◌≡◌, ℕ, ◌+◌, ◌-◌, ◌<◌, ◌≤◌, if◌then◌else◌, ◌==◌, length};
+ghost use Rattle.segments.specs.Shapes.{Within, Point};
+ghost use Rattle.segments.specs.Segments.{last, segment};
+ghost use Rattle.shape.specs.Directions.{direction_number};
+ghost use Rattle.segment_table.specs.Records.{entry_of, Recorded, Along, Uncounted};
 
-use super::{Segment, SegmentTable};
+use super::{Entry, Segment, SegmentTable};
+use shape::by_direction::ByDirection;
+use shape::direction::Direction;
 use shape::ends::{last_point, own_arc, segment_of};
-use shape::source::{ShapeSource, UP};
+use shape::source::{MOST_POINTS, ShapeSource};
+use std::array;
 
-const MOST: usize = 128;
-
-// The table of a source's segments, with no wire counted yet.
-fn entered<S: ShapeSource>(source: &S) -> SegmentTable
-    ensures { Entered (S.ShapeSource.shape source.now) ((S.ShapeSource.shape source.now).points * 2) result }
+// A point's entry with no wire counted yet: its segment's name, and the end of the line from it.
+fn uncounted<S: ShapeSource>(source: &S, direction: Direction, point: usize) -> Entry
+    ensures { Uncounted (S.ShapeSource.shape source.now) (direction_number direction) point result }
 {
-    let points = source.points();
-    let mut table = SegmentTable::unfilled(points);
-    for index in 0..points * 2 {
-        let point = index / 2 + 1;
-        let direction = index % 2;
-        if let (Some(name), Some(end)) = (
-            segment_of(source, direction, point),
-            last_point(source, point, UP - direction),
-        ) {
-            table.enter(direction, point, name, end);
-        }
+    Entry {
+        name: segment_of(source, usize::from(direction), point).unwrap_or(0),
+        segment: Segment {
+            end: last_point(source, point, usize::from(direction.far_end())).unwrap_or(0),
+            near_ends: 0,
+            far_ends: 0,
+        },
     }
-    table
+}
+
+// Counts the wire that begins at a point, if there is one.
+fn count_from<S: ShapeSource>(
+    entries: &mut [Entry; MOST_POINTS],
+    source: &S,
+    direction: Direction,
+    point: usize,
+)
+    requires point { Point (S.ShapeSource.shape source.now) point }
+    requires before { Along (S.ShapeSource.shape source.now) (direction_number direction) (point - 1) entries.old }
+    ensures { Along (S.ShapeSource.shape source.now) (direction_number direction) point entries.new }
+{
+    if let Some(arc) = own_arc(source, usize::from(direction), point) {
+        SegmentTable::count(entries, arc.from, arc.to);
+    }
+}
+
+// The entries of a direction.
+fn entries_along<S: ShapeSource>(source: &S, direction: Direction) -> [Entry; MOST_POINTS]
+    ensures { Along (S.ShapeSource.shape source.now) (direction_number direction) (S.ShapeSource.shape source.now).points result }
+{
+    let mut entries = array::from_fn(|index| uncounted(source, direction, index + 1));
+    for point in 1..=source.points() {
+        count_from(&mut entries, source, direction, point);
+    }
+    entries
 }
 
 impl SegmentTable {
@@ -33,67 +58,29 @@ impl SegmentTable {
     pub fn of<S: ShapeSource>(source: &S) -> SegmentTable
         ensures { Recorded (S.ShapeSource.shape source.now) result }
     {
-        let mut table = entered(source);
-        for index in 0..table.points * 2 {
-            let point = index / 2 + 1;
-            let direction = index % 2;
-            if let Some(arc) = own_arc(source, direction, point) {
-                table.count(direction, arc.from, arc.to);
-            }
-        }
-        table
-    }
-
-    // A table with no names, ends and wires yet.
-    fn unfilled(points: usize) -> SegmentTable
-        requires { points ≤ 128 }
-        ensures points { result.points ≡ points }
-        ensures records { (d v : ℕ) → record_in result d v ≡ blank }
-    {
-        let blank = Segment {
-            end: 0,
-            near_ends: 0,
-            far_ends: 0,
-        };
         SegmentTable {
-            points,
-            names: [0; 256],
-            records: [blank; 256],
+            points: source.points(),
+            entries: ByDirection {
+                across: entries_along(source, Direction::Across),
+                up: entries_along(source, Direction::Up),
+            },
         }
     }
 
-    // Enters the name of a point's segment of a direction, and the end of the line from the point.
-    fn enter(&mut self, direction: usize, point: usize, name: usize, end: usize)
-        requires direction { direction ≤ 1 }
-        requires point { Within 128 point }
-        ensures points { self.new.points ≡ self.old.points }
-        ensures name { name_in self.new direction point ≡ name }
-        ensures end { (record_in self.new direction point).end ≡ end }
-        ensures names { (d v : ℕ) → Within 128 v → ((d ≡ direction) × (v ≡ point) → ⊥) → name_in self.new d v ≡ name_in self.old d v }
-        ensures ends { (d v : ℕ) → Within 128 v → ((d ≡ direction) × (v ≡ point) → ⊥) → (record_in self.new d v).end ≡ (record_in self.old d v).end }
-        ensures near { (d v : ℕ) → (record_in self.new d v).near_ends ≡ (record_in self.old d v).near_ends }
-        ensures far { (d v : ℕ) → (record_in self.new d v).far_ends ≡ (record_in self.old d v).far_ends }
-    {
-        let at = direction * MOST + (point - 1);
-        self.names[at] = name;
-        self.records[at].end = end;
-    }
-
-    // Counts a wire of a direction, with its near end on one segment and its far end on another.
-    fn count(&mut self, direction: usize, near: usize, far: usize)
-        requires direction { direction ≤ 1 }
+    // Counts a wire with its near end on one segment and its far end on another.
+    // By a rule of the project: each of the two records is lent to be changed.
+    fn count(entries: &mut [Entry; MOST_POINTS], near: usize, far: usize)
         requires near { Within 128 near }
         requires far { Within 128 far }
-        requires room { ((record_in self.old direction near).near_ends ≤ 128) × ((record_in self.old direction far).far_ends ≤ 128) }
-        ensures points { self.new.points ≡ self.old.points }
-        ensures names { self.new.names ≡ self.old.names }
-        ensures ends { (d v : ℕ) → (record_in self.new d v).end ≡ (record_in self.old d v).end }
-        ensures near { (d v : ℕ) → Within 128 v → (record_in self.new d v).near_ends ≡ (record_in self.old d v).near_ends + (if nat_eq d direction && v == near then 1 else 0) }
-        ensures far { (d v : ℕ) → Within 128 v → (record_in self.new d v).far_ends ≡ (record_in self.old d v).far_ends + (if nat_eq d direction && v == far then 1 else 0) }
+        requires room { ((entry_of entries.old near).segment.near_ends ≤ 128) × ((entry_of entries.old far).segment.far_ends ≤ 128) }
+        ensures names { (v : ℕ) → (entry_of entries.new v).name ≡ (entry_of entries.old v).name }
+        ensures ends { (v : ℕ) → (entry_of entries.new v).segment.end ≡ (entry_of entries.old v).segment.end }
+        ensures near { (v : ℕ) → Within 128 v → (entry_of entries.new v).segment.near_ends ≡ (entry_of entries.old v).segment.near_ends + (if v == near then 1 else 0) }
+        ensures far { (v : ℕ) → Within 128 v → (entry_of entries.new v).segment.far_ends ≡ (entry_of entries.old v).segment.far_ends + (if v == far then 1 else 0) }
     {
-        let segment = &mut self.records[direction * MOST + (near - 1)];
+        let segment = &mut entries[near - 1].segment;
         segment.near_ends += 1;
-        let segment = &mut self.records[direction * MOST + (far - 1)];
+        let segment = &mut entries[far - 1].segment;
         segment.far_ends += 1;
     }
 }

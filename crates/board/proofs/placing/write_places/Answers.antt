@@ -8,7 +8,7 @@ pub loop-index-preserved : goal.loop-index-preserved
 loop-index-preserved c =
     let x = c.coordinate_of.ensures in
     let y = c.coordinate_of-in-loop-index.ensures in
-    written_more nowhere (λ k q. q ≡ record { x = placed_at c.args.segments.now c.args.xs.now 0 (k + 1); y = placed_at c.args.segments.now c.args.ys.now 1 (k + 1) })
+    written_more nowhere (λ k q. q ≡ record { x = placed_at c.args.segments.now c.args.coordinates.now 0 (k + 1); y = placed_at c.args.segments.now c.args.coordinates.now 1 (k + 1) })
     c.loop-index.points c.loop-index.index _ (search rules) c.loop-index.invariant (cc)
 
 pub returns : goal.returns
@@ -17,5 +17,5 @@ returns c =
       long = search rules;
       places = λ s L R e.
           let ends : s.points ≡ c.loop-index.index = search rules in
-          places_are s L c.args.segments.now R c.args.xs.now c.args.ys.now c.loop-index.points (λ k h. c.loop-index.invariant k (omega arith));
+          places_are s L c.args.segments.now R c.args.coordinates.now c.loop-index.points (λ k h. c.loop-index.invariant k (omega arith));
     }

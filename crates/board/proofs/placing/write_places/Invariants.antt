@@ -5,4 +5,4 @@ use Rattle.board.proofs.placing.write_places.Given as goal
 
 abbrev pub invariant-loop-index : goal.invariant-loop-index
 invariant-loop-index l =
-    (k : ℕ) → k < l.index → get_or l.points k nowhere ≡ record { x = placed_at l.segments l.xs 0 (k + 1); y = placed_at l.segments l.ys 1 (k + 1) }
+    (k : ℕ) → k < l.index → get_or l.points k nowhere ≡ record { x = placed_at l.segments l.coordinates 0 (k + 1); y = placed_at l.segments l.coordinates 1 (k + 1) }

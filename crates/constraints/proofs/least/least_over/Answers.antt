@@ -1,9 +1,9 @@
-use Rattle.constraints.proofs.Agreeing.{least_numbers_low}
+use Rattle.std.proofs.Common.{rules}
+use Rattle.constraints.proofs.Agreeing.{least_numbers}
 use Rattle.constraints.proofs.least.least_over.Goals as goal
 
-pub returns : goal.returns
-returns g c =
+pub returns-in-Ok-true : goal.returns-in-Ok-true
+returns-in-Ok-true g c =
     let p = g.G.ConstraintGraph in
     let s = c.args.graph.now in
-    let least = c.from_zero.ensures.of_graphs (p.size s) (p.gaps s) (p.bounds.at_most_128 s) c.in_ok-places.ensures in
-    (least, least_numbers_low (p.size s) (p.gaps s) _ (p.bounds.at_most_128 s) (p.bounds.gaps_within_100 s) least)
+    least_numbers (p.size s) (p.gaps s) (g.met.G.ConstraintGraph.bounds.at_most_128 s) (g.met.G.ConstraintGraph.bounds.gaps_within_100 s) c.longest_places.new.places _ (search rules) c.from_zero.result c.from_zero.ensures (c.longest_places.ensures.yes_gives_the_least_coordinates (search rules))

@@ -1,4 +1,4 @@
-use Rattle.std.proofs.Common.{◌≡◌, ℕ, ◌+◌, arith}
+use Rattle.std.proofs.Common.{◌≡◌, ◌+◌, arith}
 use Rattle.std.proofs.lemmas.Bool.Decides.{not_from_Decides}
 use Rattle.logs.specs.declared.refusal.Refusal.TheVariants.{OpenPair}
 use Rattle.board.specs.Boards.{gap_of}
@@ -28,11 +28,11 @@ rows-preserved c = (
 pub returns-in-Some : goal.returns-in-Some
 returns-in-Some c s log stands =
     elim c.rows-test.branch [
-      | else-rows-test w ↦ let z : ◌≡◌ {A = ℕ} 0 1 = cc in absurd (omega arith)
+      | else-rows-test w ↦ absurd cc
       | then-rows-test+then-loop-column-test+then-is_open w ↦
           let e : c.in-Some.refusal ≡ OpenPair c.rows.row w.loop-column.column = cc in
           (c.rows.row, w.loop-column.column, e, lowest s (gap_of c.args.self.now) c.rows.row w.loop-column.column (w.loop-column.invariant.0 s log stands) ((w.is_open.ensures s log stands).0 w.if-is_open.true))
-      | then-rows-test+else-row-points w ↦ let z : ◌≡◌ {A = ℕ} 0 1 = cc in absurd (omega arith)
+      | then-rows-test+else-row-points w ↦ absurd cc
     ]
 
 pub returns-in-None : goal.returns-in-None
@@ -40,7 +40,7 @@ returns-in-None c s log stands =
     let same = stands.segments.points in
     elim c.rows-test.branch [
       | else-rows-test w ↦ all_passed s (gap_of c.args.self.now) c.rows.row 1 (omega arith) (c.rows.invariant.0 s log stands)
-      | then-rows-test+then-loop-column-test+then-is_open w ↦ let z : ◌≡◌ {A = ℕ} 0 1 = cc in absurd (omega arith)
+      | then-rows-test+then-loop-column-test+then-is_open w ↦ absurd cc
       | then-rows-test+else-row-points w ↦
           let before = w.loop-column.invariant.0 s log stands in
           all_passed s (gap_of c.args.self.now) (c.rows.row + 1) 1 (omega arith)

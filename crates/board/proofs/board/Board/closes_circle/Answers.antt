@@ -1,11 +1,10 @@
-use Rattle.std.proofs.Common.{sym, inl, inr, eq-eqb}
+use Rattle.std.proofs.Common.{sym, inl, inr}
+use Rattle.shape.specs.Directions.{direction_number, direction_low}
 use Rattle.board.proofs.Standing.{reaches_tells}
 use Rattle.board.proofs.board.Board.closes_circle.Goals as goal
 
-pub returns-then-from-to : goal.returns-then-from-to
-returns-then-from-to c s log stands h = ((λ _. inl (sym c.if-from-to.true)), λ _. eq-eqb c.args.from c.args.to c.if-from-to.true)
-
-pub returns-else-from-to : goal.returns-else-from-to
-returns-else-from-to c s log stands h =
-    let d = reaches_tells s log c.args.self.now stands c.args.direction c.args.to c.args.from h _ c.arcs.ensures c.reaches.result c.reaches.ensures in
-    ((λ t. inr (d.0 t)), λ p. elim p [ inl e ↦ absurd (c.if-from-to.false (sym e)) | inr k ↦ d.1 k ])
+pub returns-else-arc : goal.returns-else-arc
+returns-else-arc c s log stands =
+    let arc = c.args.arc in
+    let d = reaches_tells s log c.args.self.now stands (direction_number arc.direction) arc.to arc.from (direction_low arc.direction) _ c.of.ensures c.reaches.result c.reaches.ensures in
+    ((λ t. inr (d.0 t)), λ p. elim p [ inl e ↦ absurd (c.if-arc.false (sym e)) | inr k ↦ d.1 k ])

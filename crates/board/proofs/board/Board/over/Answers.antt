@@ -9,7 +9,7 @@ returns-then-closes_circle g c =
     let s = of_copy c.of-shape.result in
     let x = c.own_arcs-across.result in
     let y = c.own_arcs-up.result in
-    subst (λ s. Stands s [] (record { shape = c.of-shape.result; segments = c.of-segments.result; across = x; up = y; contradictory = c.closes_circle.result })) c.of-shape.ensures
+    subst (λ s. Stands s [] (record { shape = c.of-shape.result; segments = c.of-segments.result; arcs = record { across = x; up = y }; contradictory = c.closes_circle.result })) c.of-shape.ensures
     (fresh_stands s x y c.own_arcs-across.ensures c.own_arcs-up.ensures c.of-shape.result c.of-segments.result c.closes_circle.result refl c.of-segments.ensures
     (circle_across s x y c.own_arcs-across.ensures c.own_arcs-up.ensures c.closes_circle.result c.closes_circle.ensures c.if-closes_circle.true))
 
@@ -18,6 +18,6 @@ returns-else-closes_circle g c =
     let s = of_copy c.of-shape.result in
     let x = c.own_arcs-across.result in
     let y = c.own_arcs-up.result in
-    subst (λ s. Stands s [] (record { shape = c.of-shape.result; segments = c.of-segments.result; across = x; up = y; contradictory = c.closes_circle-contradictory.result })) c.of-shape.ensures
+    subst (λ s. Stands s [] (record { shape = c.of-shape.result; segments = c.of-segments.result; arcs = record { across = x; up = y }; contradictory = c.closes_circle-contradictory.result })) c.of-shape.ensures
     (fresh_stands s x y c.own_arcs-across.ensures c.own_arcs-up.ensures c.of-shape.result c.of-segments.result c.closes_circle-contradictory.result refl c.of-segments.ensures
     (circle_up s x y c.own_arcs-across.ensures c.own_arcs-up.ensures c.closes_circle.result c.closes_circle-contradictory.result c.closes_circle.ensures c.if-closes_circle.false c.closes_circle-contradictory.ensures))

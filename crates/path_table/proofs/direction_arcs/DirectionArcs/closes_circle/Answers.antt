@@ -1,16 +1,14 @@
-use Rattle.std.proofs.Common.{refl, rules}
-use Rattle.std.proofs.lemmas.Bool.{both_ways}
-use Rattle.path_table.proofs.Changing.{no_circle_more}
-use Rattle.path_table.proofs.Names.{path_within}
+use Rattle.std.proofs.Common.{ℕ, sym, subst, rules}
+use Rattle.segments.specs.Shapes.{Within}
+use Rattle.shape.proofs.Searches.{any_decides}
+use Rattle.path_table.proofs.Names.{PathAlong, path_within}
 use Rattle.path_table.proofs.direction_arcs.DirectionArcs.closes_circle.Goals as goal
 
-pub loop-segment-preserved : goal.loop-segment-preserved
-loop-segment-preserved c = no_circle_more c.args.self.now c.loop-segment.segment _ c.if-reaches.false c.reaches.ensures c.loop-segment.invariant
-
-pub returns-else-reaches : goal.returns-else-reaches
-returns-else-reaches c tracks = (
-  λ e. absurd (both_ways _ refl e),
-  λ x.
-      let w = (path_within c.args.self.now.force x.1).0 in
-      absurd (no_circle_more c.args.self.now c.loop-segment.segment _ c.if-reaches.false c.reaches.ensures c.loop-segment.invariant tracks x.0 w.0 (search rules) x.1),
-)
+pub returns : goal.returns
+returns c =
+    let force = c.args.self.now.force in
+    let n = c.nodes.result in
+    let told = any_decides c.new.result n c.new.ensures.start c.new.ensures.end c.new.ensures.exhausted (λ a. PathAlong force a a) c.any.result c.any.ensures.runs (λ x b q h. search rules) in (
+      (λ e. let found = told.0 e in (found.0, found.2)),
+      λ p. told.1 (p.0, subst (λ (k : ℕ). Within k p.0) (sym c.nodes.ensures) (path_within force p.1).0, p.1),
+    )

@@ -7,7 +7,7 @@ use Rattle.propagation.proofs.flow_layer.FlowLayerConstraintGraph.gap.Goals as g
 
 pub overflow_sub-result : goal.overflow_sub-result
 overflow_sub-result g c =
-    let within = gap_within g.G.ConstraintGraph.bounds c.args.self.now.below.now c.args.to c.args.from c.in_ok-back.back c.in_ok-back.ensures in
+    let within = gap_within g.met.G.ConstraintGraph.bounds c.args.self.now.below.now c.args.to c.args.from c.in_ok-back.back c.in_ok-back.ensures in
     let low = within.0 in
     let high = within.1 in
     search (rules, ints)
@@ -17,8 +17,8 @@ returns g c =
     let p = g.G.ConstraintGraph in
     let l = c.args.self.now in
     let arc = c.in_ok-back.ensures in
-    let inside = gap_inside p.bounds l.below.now c.args.to c.args.from c.in_ok-back.back arc in
-    let within = gap_within p.bounds l.below.now c.args.to c.args.from c.in_ok-back.back arc in
+    let inside = gap_inside g.met.G.ConstraintGraph.bounds l.below.now c.args.to c.args.from c.in_ok-back.back arc in
+    let within = gap_within g.met.G.ConstraintGraph.bounds l.below.now c.args.to c.args.from c.in_ok-back.back arc in
     let low = within.0 in
     let high = within.1 in
     let is = c.cell.ensures.nodes inside.0 inside.1 in

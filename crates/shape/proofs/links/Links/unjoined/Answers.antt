@@ -1,6 +1,6 @@
-use Rattle.std.proofs.Common.{◌+◌, ◌-◌, ◌*◌, refl}
-use Rattle.shape.proofs.Filling.{get_d_fresh}
+use Rattle.std.proofs.Common.{◌-◌}
+use Rattle.shape.proofs.Filling.{fresh_rows}
 use Rattle.shape.proofs.links.Links.unjoined.Goals as goal
 
-pub returns : goal.returns
-returns c = record { points = refl; cells = λ d v. get_d_fresh 0 512 (d * 128 + (v - 1)) }
+pub returns-clause-cells : goal.returns-clause-cells
+returns-clause-cells c = λ d v. fresh_rows 4 128 d (v - 1)

@@ -8,7 +8,4 @@ pub invariant_of-result : goal.invariant_of-result
 invariant_of-result c =
     let l = c.unjoined.result in
     let points = c.unjoined.ensures.points in
-    record { lawful = ∣ unwired_lawful (of_links l) (omega (arith, c.requires.0)) (omega (arith, c.requires.1)) (empty_next l c.unjoined.ensures.cells) ∣₁ }
-
-pub returns : goal.returns
-returns c = record { points = c.unjoined.ensures.points; next = empty_next c.unjoined.result c.unjoined.ensures.cells }
+    record { lawful = ∣ unwired_lawful (of_links l) (omega (arith, c.args.points.some)) (omega (arith, c.args.points.few)) (empty_next l c.unjoined.ensures.cells) ∣₁ }

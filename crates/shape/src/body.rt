@@ -1,0 +1,73 @@
+// The bytes of a shape file after its header, in one of the formats.
+ghost use Rattle.std.specs.Prelude.{◌≡◌, ℕ, ◌≤◌, List, Decides, MatchResult};
+ghost use Rattle.segments.specs.Shapes.{Within};
+ghost use Rattle.shape.specs.Directions.{direction_number};
+ghost use Rattle.shape.specs.Formats.{Format, TooHigh, Taken, Unended, LeadsTo, Nowhere, Flawless, Flawed, Tabled};
+ghost use Rattle.shape.specs.Tables.{of_links};
+ghost use Rattle.shape.specs.declared.points.PointCount.{PointCount};
+
+use crate::direction::Direction;
+use crate::links::Links;
+use crate::points::{PointCount, first_point};
+use crate::refusal::Refusal;
+use crate::wires::filled;
+
+// What they tell of the points, which are asked for as they are counted.
+pub(crate) trait Body {
+    ghost format: { Format };
+
+    ghost count: { Self → PointCount };
+
+    ghost bytes: { Self → List ℕ };
+
+    fn points(&self) -> PointCount
+        ensures { result ≡ count self.now };
+
+    // Whether a point tells a number that is too high.
+    fn is_too_high(&self, point: usize) -> bool
+        requires { Within (count self.now).count point }
+        ensures { Decides result (TooHigh format (count self.now).count (bytes self.now) point) };
+
+    // Whether it tells what a lower point tells.
+    fn is_taken(&self, point: usize) -> bool
+        requires { Within (count self.now).count point }
+        ensures { Decides result (Taken format (count self.now).count (bytes self.now) point) };
+
+    // Whether it tells of a wire that never ends.
+    fn is_unended(&self, point: usize) -> bool
+        requires point { Within (count self.now).count point }
+        requires range { Nowhere (count self.now).count (TooHigh format (count self.now).count (bytes self.now)) }
+        ensures { Decides result (Unended format (count self.now).count (bytes self.now) point) };
+
+    // The point that its wire in a direction leads to.
+    fn next(&self, point: usize, direction: Direction) -> Option<usize>
+        requires { Within (count self.now).count point }
+        ensures { LeadsTo format (count self.now).count (bytes self.now) (direction_number direction) point result };
+}
+
+// Each check goes over all points before the next, and the first that fails names the lowest point at fault.
+fn check<B: Body>(body: &B) -> Result<(), Refusal>
+    ensures { MatchResult result (λ _. Flawless B.format (B.count body.now).count (B.bytes body.now)) (Flawed B.format (B.count body.now).count (B.bytes body.now)) }
+{
+    let points = body.points().count;
+    if let Some(point) = first_point(points, |point| body.is_too_high(point)) {
+        return Err(Refusal::OutOfRange { point });
+    }
+    if let Some(point) = first_point(points, |point| body.is_taken(point)) {
+        return Err(Refusal::Repeated { point });
+    }
+    if let Some(point) = first_point(points, |point| body.is_unended(point)) {
+        return Err(Refusal::Endless { point });
+    }
+    Ok(())
+}
+
+// The table of the wires that a body tells, if no point is at fault.
+pub(crate) fn tabled<B: Body>(body: &B) -> Result<Links, Refusal>
+    ensures { MatchResult result (λ l. Tabled B.format (B.count body.now).count (B.bytes body.now) (of_links l)) (Flawed B.format (B.count body.now).count (B.bytes body.now)) }
+{
+    check(body)?;
+    Ok(filled(body.points(), |point, direction| {
+        body.next(point, direction)
+    }))
+}
