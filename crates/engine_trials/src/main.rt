@@ -24,7 +24,7 @@ fn trial<G: ConstraintGraph>(
     first: Place,
     others: Place,
 ) -> anyhow::Result<()> {
-    let run = Run::from(rt.alloc(), graph, first, others)?;
+    let run = Run::from(graph, first, others);
     println!(rt; "{name}: {run}")?;
     Ok(())
 }
@@ -158,7 +158,7 @@ fn main(rt: HostRuntime) -> anyhow::Result<()> {
     table_trials(&rt)?;
     slope_trials(&rt)?;
     let ways = two_ways()?;
-    let misfit = Run::misfit(rt.alloc(), &ways, Place::new(5))?;
+    let misfit = Run::misfit(&ways, Place::new(5));
     println!(rt; "a second memory too long: {misfit}")?;
     layer_trials(&rt, &ways)?;
     short_flow_trial(&rt, &ways)?;

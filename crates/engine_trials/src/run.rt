@@ -1,55 +1,68 @@
 // One run of the engine over places, with what it answered and what it left.
 use propagation::engine::propagate;
-use propagation::graph::ConstraintGraph;
+use propagation::graph::{ConstraintGraph, MOST_NODES};
+use propagation::label::Label;
 use propagation::place::Place;
 use propagation::refusal::Refusal;
-use std::alloc::{AllocError, Global};
 use std::fmt;
 
-#[derive(Drop)]
+#[derive(Clone, Copy)]
 pub(crate) struct Run {
     answer: Result<bool, Refusal>,
-    newest: Vec<Place>,
-    before: Vec<Place>,
+    // whether the two memories hold the same labels
+    alike: bool,
+    first: Coordinates,
+    last: Coordinates,
+}
+
+// A node's coordinate in the first memory and in the second.
+#[derive(Clone, Copy)]
+struct Coordinates {
+    newest: Option<i16>,
+    before: Option<i16>,
 }
 
 impl Run {
     // The first node starts from one label and all others from another; what the second memory holds must have no influence.
-    pub(crate) fn from<G: ConstraintGraph>(
-        alloc: Global,
-        graph: &G,
-        first: Place,
-        others: Place,
-    ) -> Result<Run, AllocError> {
+    pub(crate) fn from<G: ConstraintGraph>(graph: &G, first: Place, others: Place) -> Run {
         let nodes = graph.nodes();
-        let mut newest = vec![in alloc; others; nodes]?;
-        if let Some(start) = newest.first_mut() {
-            *start = first;
-        }
-        let before = vec![in alloc; Place::new(7); nodes]?;
-        Ok(Run::over(graph, newest, before))
+        // fixed memory, here and below: a trial asks for none
+        let mut newest = [others; MOST_NODES];
+        newest[0] = first;
+        let mut before = [Place::new(7); MOST_NODES];
+        Run::over(graph, &mut newest[..nodes], &mut before[..nodes])
     }
 
     // With a second memory that is one label too long.
-    pub(crate) fn misfit<G: ConstraintGraph>(
-        alloc: Global,
-        graph: &G,
-        start: Place,
-    ) -> Result<Run, AllocError> {
+    pub(crate) fn misfit<G: ConstraintGraph>(graph: &G, start: Place) -> Run {
         let nodes = graph.nodes();
-        let newest = vec![in alloc; start; nodes]?;
-        let before = vec![in alloc; Place::new(7); nodes + 1]?;
-        Ok(Run::over(graph, newest, before))
+        let mut newest = [start; MOST_NODES];
+        let mut before = [Place::new(7); MOST_NODES + 1];
+        Run::over(graph, &mut newest[..nodes], &mut before[..=nodes])
     }
 
-    fn over<G: ConstraintGraph>(graph: &G, mut newest: Vec<Place>, mut before: Vec<Place>) -> Run {
-        let answer = propagate(graph, &mut newest, &mut before);
+    fn over<G: ConstraintGraph>(graph: &G, newest: &mut [Place], before: &mut [Place]) -> Run {
+        let answer = propagate(graph, newest, before);
         Run {
             answer,
-            newest,
-            before,
+            alike: *newest == *before,
+            first: Coordinates::of(newest.first(), before.first()),
+            last: Coordinates::of(newest.last(), before.last()),
         }
     }
+}
+
+impl Coordinates {
+    fn of(newest: Option<&Place>, before: Option<&Place>) -> Coordinates {
+        Coordinates {
+            newest: coordinate(newest),
+            before: coordinate(before),
+        }
+    }
+}
+
+fn coordinate(place: Option<&Place>) -> Option<i16> {
+    place?.coordinate()
 }
 
 // The answer, whether the memories are alike, and both coordinates of the first and of the last node.
@@ -63,15 +76,7 @@ impl fmt::Display for Run {
         write!(
             f,
             "\n  memories alike: {}; first {:?}, {:?}; last {:?}, {:?}",
-            self.newest == self.before,
-            coordinate(self.newest.first()),
-            coordinate(self.before.first()),
-            coordinate(self.newest.last()),
-            coordinate(self.before.last())
+            self.alike, self.first.newest, self.first.before, self.last.newest, self.last.before
         )
     }
-}
-
-fn coordinate(place: Option<&Place>) -> Option<i16> {
-    place?.coordinate()
 }
