@@ -69,6 +69,7 @@ impl SegmentTable {
     pub fn touch(&self, row: usize, column: usize) -> bool
         ensures { (s : Shape) → Recorded s self.now → Decides result (Touch s row column) }
     {
-        (1..=self.points).any(|point| self.lies_on(point, row, column))
+        // An open range: each step of a closed one makes more tests than the question asks.
+        (1..self.points + 1).any(|point| self.lies_on(point, row, column))
     }
 }
