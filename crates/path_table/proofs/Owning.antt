@@ -1,6 +1,7 @@
 -- A table of a shape's own arcs decides which they are. Assumes nothing.
 use Rattle.std.proofs.Common.{◌≡◌, ℕ, suc, ◌+◌, ◌≤◌, ◌≢◌, is_some, Decides, add-one, sym, ap, ◌∙◌, subst, arith}
 use Rattle.std.proofs.lemmas.Bool.{false≢true}
+use Rattle.std.proofs.lemmas.Bool.Decides.{same_from_decides}
 use native.Mathlib.Decide.{ℕ_discrete, dec_le}
 use Rattle.segments.specs.Shapes.{Shape, Lawful}
 use Rattle.segments.specs.Segments.{segment, ShapeArc}
@@ -43,11 +44,11 @@ own_decides s lawful dir t own = tells_names t (ShapeArc s dir) (arc_names s law
           λ arc. ap is_some (own.given i j arc),
         ))
 
--- a table of them, and the same in force
-pub of_shape : (s : Shape) → Lawful s → (dir : ℕ) (t : DirectionArcs) → (t.own.nodes ≡ s.points) × OwnGaps s dir (arc_gaps t.own) → t.force ≡ t.own → OfShape s dir t
-of_shape s lawful dir t own same =
+-- two tables of them, the second in force
+pub of_shape : (s : Shape) → Lawful s → (dir : ℕ) (t : DirectionArcs) → (t.own.nodes ≡ s.points) × OwnGaps s dir (arc_gaps t.own) → (t.force.nodes ≡ s.points) × OwnGaps s dir (arc_gaps t.force) → OfShape s dir t
+of_shape s lawful dir t own in_force =
     record {
-      nodes_are_points = ap (λ (x : ArcTable). x.nodes) same ∙ own.0;
+      nodes_are_points = in_force.0;
       own_are_the_shapes = own_decides s lawful dir t.own own.1;
-      own_are_in_force = λ a b. ap (λ (x : ArcTable). joined x a b) same;
+      own_are_in_force = λ a b. same_from_decides (joined t.force a b) (joined t.own a b) (own_decides s lawful dir t.force in_force.1 a b) (own_decides s lawful dir t.own own.1 a b);
     }
