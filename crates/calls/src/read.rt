@@ -1,6 +1,8 @@
 // Commands read from text.
-ghost use Rattle.std.specs.Prelude.{◌≡◌, ◌<◌, IfSome, IfOk};
+ghost use Rattle.std.specs.Prelude.{◌≡◌, ℕ, ◌<◌, IfSome, IfOk, MatchResult, ◌≢◌};
+ghost use Rattle.std.specs.Char.{digit_char};
 ghost use Rattle.calls.specs.Texts.{command_text};
+ghost use Rattle.calls.specs.declared.unread.Unread.TheVariants.{NoCommand};
 
 use crate::command::{Command, Opening};
 use crate::line::{Arc, Line};
@@ -27,11 +29,14 @@ fn read_arc(text: &str) -> Result<Arc, Unread> {
     })
 }
 
+// The value of a lower-case hexadecimal digit; the library's `to_digit` takes capitals too.
 fn read_digit(digit: u8) -> Result<u8, Unread>
-    ensures { IfOk result (λ value. value < 16) }
+    ensures { MatchResult result (λ value. (value < 16) × (digit_char value ≡ digit)) (λ e. (e ≡ NoCommand) × ((d : ℕ) → d < 16 → digit_char d ≢ digit)) }
 {
-    let value = char::from(digit).to_digit(16).ok_or(Unread::NoCommand)?;
-    Ok(value as u8)
+    match char::from(digit).to_digit(16) {
+        Some(value) if !digit.is_ascii_uppercase() => Ok(value as u8),
+        _ => Err(Unread::NoCommand),
+    }
 }
 
 fn read_byte(digits: &[u8]) -> Result<u8, Unread> {
