@@ -1,7 +1,7 @@
 // Commands read from text.
 ghost use Rattle.std.specs.Prelude.{◌≡◌, ℕ, ◌<◌, IfSome, IfOk, MatchResult, ◌≢◌};
 ghost use Rattle.std.specs.Char.{digit_char};
-ghost use Rattle.calls.specs.Texts.{command_text};
+ghost use Rattle.calls.specs.Texts.{byte_text, command_text};
 ghost use Rattle.calls.specs.declared.unread.Unread.TheVariants.{NoCommand};
 
 use crate::command::{Command, Opening};
@@ -39,7 +39,10 @@ fn read_digit(digit: u8) -> Result<u8, Unread>
     }
 }
 
-fn read_byte(digits: &[u8]) -> Result<u8, Unread> {
+// The byte whose two digits these are.
+fn read_byte(digits: &[u8]) -> Result<u8, Unread>
+    ensures { MatchResult result (λ byte. byte_text byte ≡ digits.now) (λ e. (e ≡ NoCommand) × ((byte : ℕ) → byte < 256 → byte_text byte ≢ digits.now)) }
+{
     let [high, low] = digits else {
         return Err(Unread::NoCommand);
     };
