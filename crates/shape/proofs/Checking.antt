@@ -1,5 +1,5 @@
 -- Going through the points in order, to name the lowest at fault. Assumes nothing.
-use Rattle.std.proofs.Common.{◌≡◌, ℕ, ◌≤◌, Bool, true, false, Some, None, Option, Decides, sym, refl, subst, inl, inr, arith}
+use Rattle.std.proofs.Common.{◌≡◌, ℕ, ◌≤◌, Bool, true, false, Some, None, Option, MatchOption, Decides, sym, refl, subst, inl, inr, arith}
 use Rattle.std.proofs.lemmas.Bool.{cases_eq, false≢true}
 use Rattle.std.proofs.lemmas.Bool.Decides.{not_from_Decides}
 use Rattle.segments.specs.Shapes.{Within}
@@ -27,6 +27,13 @@ module _ (Fault : ℕ → Type 0) where
 
     pub no_fault : o ≡ None → Nowhere n Fault
     no_fault is v p = not_from_Decides false (decides v false (finds.none is v (subst (λ (k : ℕ). Within k v) (sym same) p))) refl
+
+    pub first_fault : MatchOption o (Nowhere n Fault) (Lowest n Fault)
+    first_fault = from o refl
+      where
+        from : (r : Option ℕ) → o ≡ r → MatchOption r (Nowhere n Fault) (Lowest n Fault)
+        from None is = no_fault is
+        from (Some v) is = lowest_fault v is
 
   -- a fault in one of the directions
   pub either_direction : {Tests : Direction → Bool → Type 0} (r : Bool) → FindsDirection Tests r → ((d : Direction) (b : Bool) → Tests d b → Decides b (Fault (direction_number d))) → Decides r ((d : ℕ) × (d ≤ 1) × Fault d)

@@ -4,6 +4,7 @@ pub mod Filling
 pub mod Entering
 pub mod Returning
 pub mod Numbers
+pub mod Firsts
 pub mod Checking
 pub mod Reading
 pub mod Spots

@@ -94,6 +94,10 @@ pub record Lowest (n : ℕ) (Fault : ℕ → Type 0) (v : ℕ) : Type 0 where
   pub fault : Fault v
   pub first : (u : ℕ) → 1 ≤ u → u < v → ¬ Fault u
 
+-- at the number of each point the table has the lowest point that tells it in that direction
+abbrev pub Firsts : ℕ → List ℕ → ℕ → List ℕ → Type 0
+Firsts n body dir table = (v : ℕ) → Within n v → Lowest n (λ u. written body dir u ≡ written body dir v) (slice_index table (written body dir v))
+
 -- the letter and the length are right
 abbrev pub Fits : Format → List ℕ → Type 0
 Fits f file = (¬ OtherLetter f file) × (¬ Missized f file)

@@ -1,8 +1,8 @@
 // The bytes of a shape file after its header, in one of the formats.
-ghost use Rattle.std.specs.Prelude.{◌≡◌, ℕ, ◌≤◌, List, Decides, MatchResult};
+ghost use Rattle.std.specs.Prelude.{◌≡◌, ℕ, ◌≤◌, List, Decides, MatchOption, MatchResult};
 ghost use Rattle.segments.specs.Shapes.{Within};
 ghost use Rattle.shape.specs.Directions.{direction_number};
-ghost use Rattle.shape.specs.Formats.{Format, TooHigh, Taken, Unended, LeadsTo, Nowhere, Flawless, Flawed, Tabled};
+ghost use Rattle.shape.specs.Formats.{Format, TooHigh, Taken, Unended, LeadsTo, Nowhere, Lowest, Flawless, Flawed, Tabled};
 ghost use Rattle.shape.specs.Tables.{of_links};
 ghost use Rattle.shape.specs.declared.points.PointCount.{PointCount};
 
@@ -28,10 +28,9 @@ pub(crate) trait Body {
         requires { Within (count self.now).count point }
         ensures { Decides result (TooHigh format (count self.now).count (bytes self.now) point) };
 
-    // Whether it tells what a lower point tells.
-    fn is_taken(&self, point: usize) -> bool
-        requires { Within (count self.now).count point }
-        ensures { Decides result (Taken format (count self.now).count (bytes self.now) point) };
+    // The lowest point that tells what a lower point tells.
+    fn first_taken(&self) -> Option<usize>
+        ensures { MatchOption result (Nowhere (count self.now).count (Taken format (count self.now).count (bytes self.now))) (Lowest (count self.now).count (Taken format (count self.now).count (bytes self.now))) };
 
     // Whether it tells of a wire that never ends.
     fn is_unended(&self, point: usize) -> bool
@@ -53,7 +52,7 @@ fn check<B: Body>(body: &B) -> Result<(), Refusal>
     if let Some(point) = first_point(points, |point| body.is_too_high(point)) {
         return Err(Refusal::OutOfRange { point });
     }
-    if let Some(point) = first_point(points, |point| body.is_taken(point)) {
+    if let Some(point) = body.first_taken() {
         return Err(Refusal::Repeated { point });
     }
     if let Some(point) = first_point(points, |point| body.is_unended(point)) {

@@ -2,14 +2,14 @@
 ghost use Rattle.std.specs.Prelude.{◌≡◌, ℕ, ◌*◌, ◌≤◌, length, Decides, refl, MatchOption};
 ghost use Rattle.segments.specs.Shapes.{Within};
 ghost use Rattle.shape.specs.Directions.{direction_number};
-ghost use Rattle.shape.specs.Formats.{coordinate, joins, Joins, Beyond, Nearest, SharesSpot};
+ghost use Rattle.shape.specs.Formats.{coordinate, joins, Joins, Beyond, Nearest, SharesSpot, Taken};
 ghost use Rattle.shape.specs.Formats.Format.{old_sheet};
 
 use crate::body::{Body, tabled};
 use crate::direction::Direction;
 use crate::format::FileFormat;
 use crate::links::Links;
-use crate::points::PointCount;
+use crate::points::{PointCount, first_point};
 use crate::refusal::Refusal;
 use crate::shape_table::ShapeTable;
 
@@ -84,6 +84,14 @@ impl Spots<'_> {
             && self.at(one, Direction::Up) == self.at(other, Direction::Up)
     }
 
+    // Whether a lower point has the same spot.
+    fn is_taken(&self, point: usize) -> bool
+        requires { Within self.now.points.count point }
+        ensures { Decides result (Taken old_sheet self.now.points.count self.now.bytes.now point) }
+    {
+        (1..point).any(|lower| self.share_spot(lower, point))
+    }
+
     // Whether one point lies beyond another in a direction, on one line with it.
     fn lies_beyond(&self, point: usize, other: usize, direction: Direction) -> bool
         requires point { Within self.now.points.count point }
@@ -121,8 +129,8 @@ impl Body for Spots<'_> {
         self.joins(point) > 3
     }
 
-    fn is_taken(&self, point: usize) -> bool {
-        (1..point).any(|lower| self.share_spot(lower, point))
+    fn first_taken(&self) -> Option<usize> {
+        first_point(self.points.count, |point| self.is_taken(point))
     }
 
     fn is_unended(&self, point: usize) -> bool {

@@ -2,15 +2,17 @@
 ghost use Rattle.std.specs.Prelude.{◌≡◌, ℕ, suc, ◌*◌, ◌<◌, ◌≤◌, length, Decides, refl};
 ghost use Rattle.segments.specs.Shapes.{Within, steps};
 ghost use Rattle.shape.specs.Directions.{direction_number};
-ghost use Rattle.shape.specs.Formats.{written, as_written, TooHigh, Nowhere};
+ghost use Rattle.shape.specs.Formats.{written, as_written, TooHigh, Taken, Nowhere, Firsts};
 ghost use Rattle.shape.specs.Formats.Format.{shape_record};
+ghost use Rattle.shape.specs.ByDirections.{of_direction};
 ghost use Rattle.shape.specs.Tables.{Told};
 
 use crate::body::{Body, tabled};
+use crate::by_direction::ByDirection;
 use crate::direction::Direction;
 use crate::format::FileFormat;
 use crate::links::Links;
-use crate::points::PointCount;
+use crate::points::{PointCount, first_point};
 use crate::refusal::Refusal;
 use crate::shape_table::ShapeTable;
 
@@ -41,6 +43,9 @@ impl FileFormat for RecordFormat {
     }
 }
 
+// As many numbers as a byte tells.
+const NUMBERS: usize = 256;
+
 #[derive(Clone, Copy)]
 struct Numbers<'a> {
     points: PointCount,
@@ -69,13 +74,37 @@ impl Numbers<'_> {
         }
     }
 
+    // At each number the lowest point that tells it.
+    fn firsts(&self, direction: Direction) -> [u8; NUMBERS]
+        ensures { Firsts self.now.points.count self.now.bytes.now (direction_number direction) result }
+    {
+        let mut firsts = [0; NUMBERS];
+        for point in 1..=self.points.count {
+            let next = usize::from(self.number(point, direction));
+            if firsts[next] == 0 {
+                firsts[next] = point as u8;
+            }
+        }
+        firsts
+    }
+
     // Whether a lower point has the same next point.
-    fn is_repeated(&self, point: usize, direction: Direction) -> bool
-        requires { Within self.now.points.count point }
+    fn is_repeated(&self, point: usize, direction: Direction, firsts: &[u8; NUMBERS]) -> bool
+        requires point { Within self.now.points.count point }
+        requires firsts { Firsts self.now.points.count self.now.bytes.now (direction_number direction) firsts.now }
         ensures { Decides result ((u : ℕ) × (1 ≤ u) × (u < point) × (written self.now.bytes.now (direction_number direction) u ≡ written self.now.bytes.now (direction_number direction) point) × (1 ≤ written self.now.bytes.now (direction_number direction) point)) }
     {
         let next = self.number(point, direction);
-        next > 0 && (1..point).any(|lower| self.number(lower, direction) == next)
+        next > 0 && usize::from(firsts[usize::from(next)]) < point
+    }
+
+    // Whether it has so in one of the directions.
+    fn is_taken(&self, point: usize, firsts: &ByDirection<[u8; NUMBERS]>) -> bool
+        requires point { Within self.now.points.count point }
+        requires firsts { (d : ℕ) → d ≤ 1 → Firsts self.now.points.count self.now.bytes.now d (of_direction firsts.now d) }
+        ensures { Decides result (Taken shape_record self.now.points.count self.now.bytes.now point) }
+    {
+        Direction::any(|direction| self.is_repeated(point, direction, firsts.of(direction)))
     }
 
     // Whether the chain from a point returns to it.
@@ -112,8 +141,12 @@ impl Body for Numbers<'_> {
         Direction::any(|direction| usize::from(self.number(point, direction)) > self.points.count)
     }
 
-    fn is_taken(&self, point: usize) -> bool {
-        Direction::any(|direction| self.is_repeated(point, direction))
+    fn first_taken(&self) -> Option<usize> {
+        let firsts = ByDirection {
+            across: self.firsts(Direction::Across),
+            up: self.firsts(Direction::Up),
+        };
+        first_point(self.points.count, |point| self.is_taken(point, &firsts))
     }
 
     fn is_unended(&self, point: usize) -> bool {

@@ -2,7 +2,7 @@ use Rattle.std.proofs.Common.{◌≡◌, ℕ, ◌<◌, ◌≤◌, rules}
 use Rattle.std.proofs.lemmas.Bool.Decides.{Decides-like}
 use Rattle.shape.specs.Formats.{written}
 use Rattle.shape.proofs.Checking.{either_direction}
-use Rattle.shape.proofs.record.NumbersBody.is_taken.Goals as goal
+use Rattle.shape.proofs.record.Numbers.is_taken.Goals as goal
 
 pub returns : goal.returns
 returns c =

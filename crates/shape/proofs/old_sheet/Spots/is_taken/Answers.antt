@@ -1,7 +1,7 @@
 use Rattle.std.proofs.Common.{ℕ, rules}
 use Rattle.shape.specs.Formats.{SharesSpot}
 use Rattle.shape.proofs.Ranges.{any_passes}
-use Rattle.shape.proofs.old_sheet.SpotsBody.is_taken.Goals as goal
+use Rattle.shape.proofs.old_sheet.Spots.is_taken.Goals as goal
 
 pub returns : goal.returns
 returns c =
