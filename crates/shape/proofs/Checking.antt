@@ -10,7 +10,7 @@ use Rattle.shape.specs.Directions.{direction_number, direction_low}
 use Rattle.shape.specs.Formats.{Lowest, Nowhere}
 
 -- the direction with a number
-numbered : (d : ℕ) → d ≤ 1 → (direction : Direction) × (direction_number direction ≡ d)
+pub numbered : (d : ℕ) → d ≤ 1 → (direction : Direction) × (direction_number direction ≡ d)
 numbered d h = elim (cases_eq d 0) [ inl z ↦ (Across, sym z) | inr z ↦ (Up, omega arith) ]
 
 module _ (Fault : ℕ → Type 0) where

@@ -34,6 +34,12 @@ module _ (Tells : ℕ → Direction → Option ℕ → Type 0) (n : ℕ) (apart 
   leads_some : (d : Direction) (v w : ℕ) → LeadsBy Tells (direction_number d) v w → 1 ≤ w → Tells v d (Some w)
   leads_some d v w r h = subst (Tells v d) (told_point w r.1 r.4 h) (subst (λ (x : Direction). Tells v x r.1) (one_direction r.0 d r.2) r.3)
 
+  -- the closure tells something of each wire in the table
+  pub told_before : (i v : ℕ) (l : Links) → Filled (LeadsBy Tells) n i l → Within n v → (v - 1) * 2 ≤ i → (u : ℕ) (d : Direction) → 1 ≤ u → u < v → (o : Option ℕ) × Tells u d o
+  told_before i v l F pv past u d low less =
+      let r = F.forward (direction_number d) u (direction_low d) (low, omega (arith, pv.1)) (let h = direction_low d in omega arith) in
+      (r.1, subst (λ (x : Direction). Tells u x r.1) (one_direction r.0 d r.2) r.3)
+
   module _ (i v : ℕ) (d : Direction) (l : Links) (F : Filled (LeadsBy Tells) n i l) (at : i ≡ (v - 1) * 2 + direction_number d) (pv : Within n v) where
     pub entered : (w : ℕ) → Within n w → Tells v d (Some w) → (l' : Links) → l'.points ≡ l.points → cell l' (direction_number d) v ≡ w → cell l' (direction_number d + 2) w ≡ v → ((e u : ℕ) → 1 ≤ u → ((e ≡ direction_number d) × (u ≡ v) → ⊥) → ((e ≡ direction_number d + 2) × (u ≡ w) → ⊥) → cell l' e u ≡ cell l e u) → Filled (LeadsBy Tells) n (i + 1) l'
     entered w pw tells l' points there back others =

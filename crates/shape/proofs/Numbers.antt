@@ -62,4 +62,4 @@ module _ (n : ℕ) (body : List ℕ) where
   ended_lawful ended low high l F =
       filled_lawful (Leads shape_record n body) n l F low high (λ dir k v h p e.
       let at : Within n v = (p.0, omega (arith, p.1, F.points)) in
-      ended v at (dir, k, h, sym (walked l F dir h (suc k) v at).0 ∙ e))
+      ended v at (dir, h, (k, sym (walked l F dir h (suc k) v at).0 ∙ e)))

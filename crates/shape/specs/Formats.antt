@@ -1,5 +1,5 @@
 -- What the bytes of a shape file say, and when a file is refused. Assumes nothing.
-use Rattle.std.specs.Prelude.{◌≡◌, ℕ, suc, ◌+◌, ◌-◌, ◌*◌, ◌<◌, ◌≤◌, true, cond, ◌≢◌, ◌⊎◌, ◌↔◌, List, length, drop, is_ok, is_err, Err, Option, Result, ◌==◌, slice_index}
+use Rattle.std.specs.Prelude.{◌≡◌, ℕ, suc, ◌+◌, ◌-◌, ◌*◌, ◌<◌, ◌≤◌, true, cond, ◌≢◌, ◌⊎◌, ◌↔◌, List, length, drop, is_ok, is_err, Err, Option, Result, MatchResult, ◌==◌, slice_index}
 use Rattle.segments.specs.Shapes.{Shape, Lawful, Within, Point, Same, steps}
 use Rattle.shape.specs.Tables.{Told}
 use Rattle.shape.specs.declared.refusal.Refusal.{Refusal}
@@ -79,10 +79,15 @@ abbrev pub Taken : Format → ℕ → List ℕ → ℕ → Type 0
 Taken shape_record n body v = (dir u : ℕ) × (dir ≤ 1) × (1 ≤ u) × (u < v) × (written body dir u ≡ written body dir v) × (1 ≤ written body dir v)
 Taken old_sheet n body v = (u : ℕ) × (1 ≤ u) × (u < v) × SharesSpot body u v
 
--- the point lies on a chain that returns to it; the point is joined to no point
+-- in one direction: the point lies on a chain that returns to it; the point is joined to no point
+abbrev pub UnendedAlong : Format → ℕ → List ℕ → ℕ → ℕ → Type 0
+UnendedAlong shape_record n body dir v = (k : ℕ) × (steps (as_written n body) dir (suc k) v ≡ v)
+UnendedAlong old_sheet n body dir v = Joins body dir v × ((w : ℕ) → Within n w → ¬ Beyond body dir v w)
+
+-- the same in either direction
 abbrev pub Unended : Format → ℕ → List ℕ → ℕ → Type 0
-Unended shape_record n body v = (dir k : ℕ) × (dir ≤ 1) × (steps (as_written n body) dir (suc k) v ≡ v)
-Unended old_sheet n body v = (dir : ℕ) × (dir ≤ 1) × Joins body dir v × ((w : ℕ) → Within n w → ¬ Beyond body dir v w)
+Unended shape_record n body v = (dir : ℕ) × (dir ≤ 1) × UnendedAlong shape_record n body dir v
+Unended old_sheet n body v = (dir : ℕ) × (dir ≤ 1) × UnendedAlong old_sheet n body dir v
 
 -- no point is at fault
 abbrev pub Nowhere : ℕ → (ℕ → Type 0) → Type 0
@@ -132,9 +137,13 @@ abbrev pub Leads : Format → ℕ → List ℕ → ℕ → ℕ → ℕ → Type 
 Leads shape_record n body dir v w = w ≡ written body dir v
 Leads old_sheet n body dir v w = (Joins body dir v → Nearest n body dir v w) × ((¬ Joins body dir v) → w ≡ 0)
 
--- what an answer tells of the next point, where the point does not end nowhere
+-- what an answer tells of the next point
 abbrev pub LeadsTo : Format → ℕ → List ℕ → ℕ → ℕ → Option ℕ → Type 0
-LeadsTo f n body dir v o = ¬ Unended f n body v → (w : ℕ) × Told w o × Leads f n body dir v w
+LeadsTo f n body dir v o = (w : ℕ) × Told w o × Leads f n body dir v w
+
+-- a wire that ends leads to the point that it tells; one that never ends is the fault of the point where it begins
+abbrev pub TellsWire : Format → ℕ → List ℕ → ℕ → ℕ → Result (Option ℕ) Refusal → Type 0
+TellsWire f n body dir v r = MatchResult r (λ o. (¬ UnendedAlong f n body dir v) × LeadsTo f n body dir v o) (λ e. (e ≡ Endless v) × UnendedAlong f n body dir v)
 
 pub record Describes (f : Format) (file : List ℕ) (s : Shape) : Type 0 where
   pub lawful : Lawful s

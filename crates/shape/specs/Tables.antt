@@ -1,5 +1,5 @@
 -- The table of neighbours. Assumes nothing.
-use Rattle.std.specs.Prelude.{◌≡◌, ℕ, ◌+◌, ◌-◌, ◌*◌, ◌<◌, ◌≤◌, cond, ◌&&◌, ◌↔◌, [], Some, None, Option, nat_le, slice_index, slice_index_or}
+use Rattle.std.specs.Prelude.{◌≡◌, ℕ, ◌+◌, ◌-◌, ◌*◌, ◌<◌, ◌≤◌, cond, ◌&&◌, ◌↔◌, [], Some, None, Option, Ok, Err, Result, nat_le, slice_index, slice_index_or}
 use Rattle.segments.specs.Shapes.{Shape, Within}
 use Rattle.shape.specs.declared.direction.Direction.{Direction}
 use Rattle.shape.specs.declared.links.Links.{Links}
@@ -34,3 +34,11 @@ pub record Filled (R : ℕ → ℕ → ℕ → Type 0) (n i : ℕ) (l : Links) :
 -- what a closure tells of wires: from the point v in direction d leads one to w, or there is none and w is 0
 abbrev pub LeadsBy : (ℕ → Direction → Option ℕ → Type 0) → ℕ → ℕ → ℕ → Type 0
 LeadsBy Tells d v w = (direction : Direction) × (o : Option ℕ) × (direction_number direction ≡ d) × Tells v direction o × Told w o
+
+-- of the points 1 to n, taken in order, the first where a closure fails to tell of a wire: there it tells e
+pub record FailsFirst {E : Type 0} (n : ℕ) (Tells : ℕ → Direction → Result (Option ℕ) E → Type 0) (e : E) : Type 0 where
+  pub at : ℕ
+  pub direction : Direction
+  pub point : Within n at
+  pub fails : Tells at direction (Err e)
+  pub before : (u : ℕ) (d : Direction) → 1 ≤ u → u < at → (o : Option ℕ) × Tells u d (Ok o)

@@ -2,7 +2,7 @@
 ghost use Rattle.std.specs.Prelude.{◌≡◌, ℕ, ◌≤◌, List, Decides, MatchOption, MatchResult};
 ghost use Rattle.segments.specs.Shapes.{Within};
 ghost use Rattle.shape.specs.Directions.{direction_number};
-ghost use Rattle.shape.specs.Formats.{Format, TooHigh, Taken, Unended, LeadsTo, Nowhere, Lowest, Flawless, Flawed, Tabled};
+ghost use Rattle.shape.specs.Formats.{Format, TooHigh, Taken, TellsWire, Nowhere, Lowest, Flawed, Tabled};
 ghost use Rattle.shape.specs.Tables.{of_links};
 ghost use Rattle.shape.specs.declared.points.PointCount.{PointCount};
 
@@ -32,21 +32,16 @@ pub(crate) trait Body {
     fn first_taken(&self) -> Option<usize>
         ensures { MatchOption result (Nowhere (count self.now).count (Taken format (count self.now).count (bytes self.now))) (Lowest (count self.now).count (Taken format (count self.now).count (bytes self.now))) };
 
-    // Whether it tells of a wire that never ends.
-    fn is_unended(&self, point: usize) -> bool
+    // The point that its wire in a direction leads to, if the wire ends.
+    fn next(&self, point: usize, direction: Direction) -> Result<Option<usize>, Refusal>
         requires point { Within (count self.now).count point }
         requires range { Nowhere (count self.now).count (TooHigh format (count self.now).count (bytes self.now)) }
-        ensures { Decides result (Unended format (count self.now).count (bytes self.now) point) };
-
-    // The point that its wire in a direction leads to.
-    fn next(&self, point: usize, direction: Direction) -> Option<usize>
-        requires { Within (count self.now).count point }
-        ensures { LeadsTo format (count self.now).count (bytes self.now) (direction_number direction) point result };
+        ensures { TellsWire format (count self.now).count (bytes self.now) (direction_number direction) point result };
 }
 
-// Each check goes over all points before the next, and the first that fails names the lowest point at fault.
+// The checks before any wire is followed. Each goes over all points before the next, and the first that fails names the lowest point at fault.
 fn check<B: Body>(body: &B) -> Result<(), Refusal>
-    ensures { MatchResult result (λ _. Flawless B.format (B.count body.now).count (B.bytes body.now)) (Flawed B.format (B.count body.now).count (B.bytes body.now)) }
+    ensures { MatchResult result (λ _. Nowhere (B.count body.now).count (TooHigh B.format (B.count body.now).count (B.bytes body.now)) × Nowhere (B.count body.now).count (Taken B.format (B.count body.now).count (B.bytes body.now))) (Flawed B.format (B.count body.now).count (B.bytes body.now)) }
 {
     let points = body.points().count;
     if let Some(point) = first_point(points, |point| body.is_too_high(point)) {
@@ -54,9 +49,6 @@ fn check<B: Body>(body: &B) -> Result<(), Refusal>
     }
     if let Some(point) = body.first_taken() {
         return Err(Refusal::Repeated { point });
-    }
-    if let Some(point) = first_point(points, |point| body.is_unended(point)) {
-        return Err(Refusal::Endless { point });
     }
     Ok(())
 }
@@ -66,7 +58,7 @@ pub(crate) fn tabled<B: Body>(body: &B) -> Result<Links, Refusal>
     ensures { MatchResult result (λ l. Tabled B.format (B.count body.now).count (B.bytes body.now) (of_links l)) (Flawed B.format (B.count body.now).count (B.bytes body.now)) }
 {
     check(body)?;
-    Ok(filled(body.points(), |point, direction| {
+    filled(body.points(), |point, direction| {
         body.next(point, direction)
-    }))
+    })
 }

@@ -9,6 +9,7 @@ use crate::points::PointCount;
 use crate::shape_table::ShapeTable;
 use crate::source::ShapeSource;
 use crate::wires::filled;
+use std::convert::Infallible;
 use std::marker::PhantomData;
 
 pub type ShapeCopy = ShapeTable<Copied>;
@@ -35,7 +36,8 @@ fn links_of<S: ShapeSource>(source: &S) -> Links
     let points = PointCount {
         count: source.points(),
     };
-    filled(points, |point, direction| {
-        source.beside(point, direction.ahead())
-    })
+    let Ok(links) = filled::<Infallible, _>(points, |point, direction| {
+        Ok(source.beside(point, direction.ahead()))
+    });
+    links
 }

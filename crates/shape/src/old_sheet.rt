@@ -133,17 +133,14 @@ impl Body for Spots<'_> {
         first_point(self.points.count, |point| self.is_taken(point))
     }
 
-    fn is_unended(&self, point: usize) -> bool {
-        Direction::any(|direction| {
-            self.is_joined(point, direction) && self.nearest(point, direction).is_none()
-        })
-    }
-
-    fn next(&self, point: usize, direction: Direction) -> Option<usize> {
+    fn next(&self, point: usize, direction: Direction) -> Result<Option<usize>, Refusal> {
         if self.is_joined(point, direction) {
-            self.nearest(point, direction)
+            match self.nearest(point, direction) {
+                None => Err(Refusal::Endless { point }),
+                next => Ok(next),
+            }
         } else {
-            None
+            Ok(None)
         }
     }
 }

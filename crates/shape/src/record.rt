@@ -149,11 +149,10 @@ impl Body for Numbers<'_> {
         first_point(self.points.count, |point| self.is_taken(point, &firsts))
     }
 
-    fn is_unended(&self, point: usize) -> bool {
-        Direction::any(|direction| self.returns(point, direction))
-    }
-
-    fn next(&self, point: usize, direction: Direction) -> Option<usize> {
-        self.following(point, direction)
+    fn next(&self, point: usize, direction: Direction) -> Result<Option<usize>, Refusal> {
+        if self.returns(point, direction) {
+            return Err(Refusal::Endless { point });
+        }
+        Ok(self.following(point, direction))
     }
 }

@@ -28,8 +28,8 @@ pub returns : goal.returns
 returns g c =
     let s = g.S.ShapeSource.shape c.args.source.now in
     let m = c.points.result in
-    let weaker = filled_weaker (LeadsAs s) m (m * 2) c.filled.result c.filled.ensures in
+    let weaker = filled_weaker (LeadsAs s) m (m * 2) c.in-Ok.links c.in-Ok.ensures in
     let table = weaker (λ d v w h p r.
     let tells : Told (s.next (direction_number r.0) v) r.1 = search rules in
     subst (λ (k : ℕ). LeadsAs s k v w) r.2 (told_same w (s.next (direction_number r.0) v) r.1 r.4 tells)) in
-    subst (λ (k : ℕ). Filled (LeadsAs s) k (k * 2) c.filled.result) c.points.ensures table
+    subst (λ (k : ℕ). Filled (LeadsAs s) k (k * 2) c.in-Ok.links) c.points.ensures table
