@@ -25,14 +25,13 @@ fn linked(nodes: usize) -> Option<ArcTable> {
 }
 
 // One in each cell of the chain.
-fn flow_along(table: &ArcTable) -> [u8; MOST_NODES * MOST_NODES] {
-    let mut cells = [0; MOST_NODES * MOST_NODES];
-    for (from, row) in cells.chunks_mut(table.nodes()).enumerate() {
+fn flow_along(table: &ArcTable, cells: &mut [u8]) {
+    let nodes = table.nodes();
+    for (from, row) in cells.chunks_mut(nodes).take(nodes).enumerate() {
         if let Some(cell) = row.get_mut(from + 1) {
             *cell = 1;
         }
     }
-    cells
 }
 
 // How many of so many runs come to a yes.
@@ -73,7 +72,11 @@ pub extern "C" fn places_over_layer(nodes: usize, times: u32) -> u32
     ensures { result ≤ times }
 {
     match linked(nodes) {
-        Some(table) => settled(&FlowLayer::new(&table, &flow_along(&table)), times),
+        Some(table) => {
+            let mut cells = [0; MOST_NODES * MOST_NODES];
+            flow_along(&table, &mut cells);
+            settled(&FlowLayer::new(&table, &cells), times)
+        }
         None => 0,
     }
 }
