@@ -13,6 +13,7 @@ fn gathered<G: ConstraintGraph, L: Label>(graph: &G, old: &[L], to: usize) -> L
     requires to_is_a_node { to < length old.now }
     ensures { result ≡ pulled L.Label.meaning (G.ConstraintGraph.gaps graph.now) (at L.Label.meaning old.now) to (length old.now) }
 {
+    // By numbers: the compiler then sees that each is a node, and asks at no gap whether it is.
     (0..old.len()).fold(old[to], |label, from| match graph.gap(from, to) {
         Some(gap) => label.join(old[from].carry(gap)),
         None => label,
