@@ -141,7 +141,7 @@ Leads old_sheet n body dir v w = (Joins body dir v → Nearest n body dir v w) �
 abbrev pub LeadsTo : Format → ℕ → List ℕ → ℕ → ℕ → Option ℕ → Type 0
 LeadsTo f n body dir v o = (w : ℕ) × Told w o × Leads f n body dir v w
 
--- a wire that ends leads to the point that it tells; one that never ends is the fault of the point where it begins
+-- what an answer tells of the wire from v in that direction: the next point or none, if the wire ends, and else the fault of v
 abbrev pub TellsWire : Format → ℕ → List ℕ → ℕ → ℕ → Result (Option ℕ) Refusal → Type 0
 TellsWire f n body dir v r = MatchResult r (λ o. (¬ UnendedAlong f n body dir v) × LeadsTo f n body dir v o) (λ e. (e ≡ Endless v) × UnendedAlong f n body dir v)
 

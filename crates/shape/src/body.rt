@@ -39,12 +39,18 @@ pub(crate) trait Body {
         ensures { TellsWire format (count self.now).count (bytes self.now) (direction_number direction) point result };
 }
 
+// The lowest point that tells a number that is too high.
+fn first_too_high<B: Body>(body: &B) -> Option<usize>
+    ensures { MatchOption result (Nowhere (B.count body.now).count (TooHigh B.format (B.count body.now).count (B.bytes body.now))) (Lowest (B.count body.now).count (TooHigh B.format (B.count body.now).count (B.bytes body.now))) }
+{
+    first_point(body.points().count, |point| body.is_too_high(point))
+}
+
 // The checks before any wire is followed. Each goes over all points before the next, and the first that fails names the lowest point at fault.
 fn check<B: Body>(body: &B) -> Result<(), Refusal>
     ensures { MatchResult result (λ _. Nowhere (B.count body.now).count (TooHigh B.format (B.count body.now).count (B.bytes body.now)) × Nowhere (B.count body.now).count (Taken B.format (B.count body.now).count (B.bytes body.now))) (Flawed B.format (B.count body.now).count (B.bytes body.now)) }
 {
-    let points = body.points().count;
-    if let Some(point) = first_point(points, |point| body.is_too_high(point)) {
+    if let Some(point) = first_too_high(body) {
         return Err(Refusal::OutOfRange { point });
     }
     if let Some(point) = body.first_taken() {

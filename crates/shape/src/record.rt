@@ -98,7 +98,7 @@ impl Numbers<'_> {
         next > 0 && usize::from(firsts[usize::from(next)]) < point
     }
 
-    // Whether it has so in one of the directions.
+    // The same in either direction.
     fn is_taken(&self, point: usize, firsts: &ByDirection<[u8; NUMBERS]>) -> bool
         requires point { Within self.now.points.count point }
         requires firsts { (d : ℕ) → d ≤ 1 → Firsts self.now.points.count self.now.bytes.now d (of_direction firsts.now d) }
