@@ -1,7 +1,6 @@
 pub mod Bounding
 pub mod Layering
 pub mod Leading
-pub mod Gathering
 pub mod Unset
 pub mod Running
 pub mod Pushing

@@ -13,11 +13,13 @@ fn gathered<G: ConstraintGraph, L: Label>(graph: &G, old: &[L], to: usize) -> L
     requires to_is_a_node { to < length old.now }
     ensures { result ≡ pulled L.Label.meaning (G.ConstraintGraph.gaps graph.now) (at L.Label.meaning old.now) to (length old.now) }
 {
-    // By numbers: the compiler then sees that each is a node, and asks at no gap whether it is.
-    (0..old.len()).fold(old[to], |label, from| match graph.gap(from, to) {
-        Some(gap) => label.join(old[from].carry(gap)),
-        None => label,
-    })
+    let mut label = old[to];
+    for (from, sent) in old.iter().enumerate() {
+        if let Some(gap) = graph.gap(from, to) {
+            label = label.join(sent.carry(gap));
+        }
+    }
+    label
 }
 
 // One round, from the old labels to the new ones.

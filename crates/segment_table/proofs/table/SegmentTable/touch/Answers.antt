@@ -11,4 +11,4 @@ returns c s R =
     let On = Crossing t c.args.row c.args.column in
     touch_told t c.args.row c.args.column s R c.any.result
     (Decides-like c.any.result (λ x. (x.0, (x.1, omega arith), x.3)) (λ x. (x.0, x.1.0, omega arith, x.2))
-        (any_passes On (t.points + 1) _ _ _ c.any.result (search rules) (search rules) c.any.ensures.ran (λ x b q h. search rules)))
+    (any_passes On (t.points + 1) _ _ _ c.any.result (search rules) (search rules) c.any.ensures.ran (λ x b q h. search rules)))
